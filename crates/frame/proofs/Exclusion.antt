@@ -1,0 +1,156 @@
+-- 3 is given exactly for what is not whole and 4 exactly for what is too long, so no bytes are both; and no other number than document 01's is given.
+use Prim.Native.Nat.{ℕ, _+_}
+use mathlib.Core.Bool.{Bool, true, false, not, _&&_, _||_}
+use mathlib.Core.List.{List, [], _∷_}
+use mathlib.Core.Logic.{_↔_}
+use mathlib.Core.Path.{_≡_, refl, sym, _∙_, ap, ap₂}
+use native.Mathlib.Numerals.{add-one}
+use native.Mathlib.Omega.{arith}
+use borrow.Author.Tests.{eq-eqb, ne-eqb, lt-ltb, le-leb, lt-leb, eqb-true, ltb-true, ltb-false}
+use lib.Dec.{eqb, leb, ltb, leb·suc-suc}
+use lib.ListN.{length, getD, take}
+use lib.Seq.{take-all}
+use Rattle.frame.specs.Ground.{pick}
+use Rattle.frame.specs.Wire.{enquiry, update-opens, update-closes}
+use Rattle.frame.specs.Receive.{received, updated, framed, run, text-space, data-length, number}
+use Rattle.frame.specs.Laws.{has, not-whole, too-long, ThreeFourApart, NumbersGiven}
+use Rattle.frame.specs.declared.receive.Received.{Received}
+use Rattle.frame.specs.declared.receive.Received.the-variants.{Partial, Refused, Enquiry, Update}
+use Rattle.frame.proofs.Laws.{pick-case}
+use Rattle.frame.proofs.Whole.{checked, checked-case}
+
+-- ---- Numbers as tests.
+exactly : (k m : ℕ) (b : Bool) → eqb k m ≡ b → (k ≡ m) ↔ (b ≡ true)
+exactly k m b e = (λ h. sym e ∙ eq-eqb k m h, λ h. eqb-true k m (e ∙ h))
+
+not-both : (k : ℕ) → (eqb k 3 && eqb k 4) ≡ false
+not-both k = go (eqb k 3) refl
+  where
+    go : (t : Bool) → eqb k 3 ≡ t → (t && eqb k 4) ≡ false
+    go true e = rw (eqb-true k 3 e)
+    go false e = refl
+
+at-most : (m n : ℕ) → leb m n ≡ not (ltb n m)
+at-most m n = go (ltb n m) refl
+  where
+    go : (t : Bool) → ltb n m ≡ t → leb m n ≡ not t
+    go true e = lt-leb m n (ltb-true n m e)
+    go false e = le-leb m n (ltb-false n m e)
+
+-- ---- The count before the first b is below the length exactly where b is there.
+run-has : (b : ℕ) (s : List ℕ) → ltb (run b s) (length s) ≡ has b s
+run-has b [] = refl
+run-has b (x ∷ s) = go (eqb x b) refl (run-has b s)
+  where
+    go : (t : Bool) → eqb x b ≡ t → ltb (run b s) (length s) ≡ has b s → ltb (run b (x ∷ s)) (length (x ∷ s)) ≡ has b (x ∷ s)
+    go true e again = rw e (lt-ltb 0 (length (x ∷ s)) (omega arith))
+    go false e again = rw e (leb·suc-suc (run b s + 1) (length s) ∙ ap (λ (k : ℕ). leb k (length s)) (add-one (run b s)) ∙ again)
+
+-- ---- An update.
+opened-has : (x : ℕ) (s : List ℕ) → x ≡ update-opens → has update-closes (x ∷ s) ≡ has update-closes s
+opened-has x s e = rw (ne-eqb x update-closes (λ z. omega arith))
+
+same-where : (y a b : Bool) → (y ≡ true → a ≡ b) → (y && not a) ≡ (y && not b)
+same-where true a b h = ap not (h refl)
+same-where false a b h = refl
+
+update-numbers : (a b : Bool) (n c k : ℕ) → let r : Received = pick a (Update n c) (pick b Partial (Refused 4 k)) in (eqb (number r) 3 ≡ (b && not a)) × (eqb (number r) 4 ≡ (not b && not a))
+update-numbers true true n c k = (refl, refl)
+update-numbers true false n c k = (refl, refl)
+update-numbers false true n c k = (refl, refl)
+update-numbers false false n c k = (refl, refl)
+
+module _ (x : ℕ) (s : List ℕ) (e : x ≡ update-opens) where
+  update-three : eqb (number (updated (x ∷ s) (run update-closes (text-space (x ∷ s))))) 3 ≡ (ltb (length (x ∷ s)) 1024 && not (has update-closes (x ∷ s)))
+  unfolding updated
+  update-three =
+      update-numbers (ltb (run update-closes (text-space (x ∷ s))) (length (text-space (x ∷ s)))) (ltb (length (x ∷ s)) 1024) _ _ _ .0
+      ∙ ap (λ (b : Bool). ltb (length (x ∷ s)) 1024 && not b) (run-has update-closes (text-space (x ∷ s)))
+      ∙ same-where (ltb (length (x ∷ s)) 1024) _ _ (λ q. ap (has update-closes) (take-all 1023 s (omega (arith, ltb-true (length (x ∷ s)) 1024 q))) ∙ sym (opened-has x s e))
+
+  update-four : eqb (number (updated (x ∷ s) (run update-closes (text-space (x ∷ s))))) 4 ≡ (leb 1024 (length (x ∷ s)) && not (has update-closes (take 1024 (x ∷ s))))
+  unfolding updated
+  update-four =
+      update-numbers (ltb (run update-closes (text-space (x ∷ s))) (length (text-space (x ∷ s)))) (ltb (length (x ∷ s)) 1024) _ _ _ .1
+      ∙ ap₂ (λ (a b : Bool). a && not b) (sym (at-most 1024 (length (x ∷ s)))) (run-has update-closes (text-space (x ∷ s)) ∙ sym (opened-has x (take 1023 s) e))
+
+-- ---- A frame.
+frame-numbers : (a b c : Bool) (r : Received) (k : ℕ) → eqb (number r) 3 ≡ false → eqb (number r) 4 ≡ false
+    → let f : Received = pick a Partial (pick b (Refused 4 k) (pick c Partial r)) in (eqb (number f) 3 ≡ (a || (not b && c))) × (eqb (number f) 4 ≡ (not a && b))
+frame-numbers true b c r k three four = (refl, refl)
+frame-numbers false true c r k three four = (refl, refl)
+frame-numbers false false true r k three four = (refl, refl)
+frame-numbers false false false r k three four = (three, four)
+
+checked-three : (s : List ℕ) (n : ℕ) → eqb (number (checked s n)) 3 ≡ false
+checked-three s n = checked-case (λ (r : Received). eqb (number r) 3 ≡ false) s n refl (λ i. refl) (λ i. refl) (λ i. refl)
+
+checked-four : (s : List ℕ) (n : ℕ) → eqb (number (checked s n)) 4 ≡ false
+checked-four s n = checked-case (λ (r : Received). eqb (number r) 4 ≡ false) s n refl (λ i. refl) (λ i. refl) (λ i. refl)
+
+module _ (s : List ℕ) (n : ℕ) where
+  frame-three : eqb (number (framed s n)) 3 ≡ (ltb (length s) 3 || (leb n 550 && ltb (length s) (n + 4)))
+  unfolding framed checked
+  frame-three =
+      frame-numbers (ltb (length s) 3) (ltb 550 n) (ltb (length s) (n + 4)) (checked s n) (length s) (checked-three s n) (checked-four s n) .0
+      ∙ ap (λ (b : Bool). ltb (length s) 3 || (b && ltb (length s) (n + 4))) (sym (at-most n 550))
+
+  frame-four : eqb (number (framed s n)) 4 ≡ (leb 3 (length s) && ltb 550 n)
+  unfolding framed checked
+  frame-four =
+      frame-numbers (ltb (length s) 3) (ltb 550 n) (ltb (length s) (n + 4)) (checked s n) (length s) (checked-three s n) (checked-four s n) .1
+      ∙ ap (λ (b : Bool). b && ltb 550 n) (sym (at-most 3 (length s)))
+
+-- ---- All that can be handed in.
+sorted : (m : ℕ) (p : Bool) → eqb 3 m ≡ p → eqb 0 m ≡ false → (a b c : Bool) (u f : Received) (wu wf : Bool) → (c ≡ true → eqb (number u) m ≡ wu) → eqb (number f) m ≡ wf
+    → eqb (number (pick a Partial (pick b Enquiry (pick c u f)))) m ≡ pick a p (pick b false (pick c wu wf))
+sorted m p e z true b c u f wu wf hu hf = e
+sorted m p e z false true c u f wu wf hu hf = z
+sorted m p e z false false true u f wu wf hu hf = hu refl
+sorted m p e z false false false u f wu wf hu hf = hf
+
+number-three : (s : List ℕ) → eqb (number (received s)) 3 ≡ not-whole s
+unfolding received not-whole
+number-three [] = refl
+number-three (x ∷ s) =
+    sorted 3 true refl refl (eqb (length (x ∷ s)) 0) (eqb x enquiry) (eqb x update-opens) _ _ _ _
+    (λ e. update-three x s (eqb-true x update-opens e))
+    (frame-three (x ∷ s) (data-length (x ∷ s)))
+
+number-four : (s : List ℕ) → eqb (number (received s)) 4 ≡ too-long s
+unfolding received too-long
+number-four [] = refl
+number-four (x ∷ s) =
+    sorted 4 false refl refl (eqb (length (x ∷ s)) 0) (eqb x enquiry) (eqb x update-opens) _ _ _ _
+    (λ e. update-four x s (eqb-true x update-opens e))
+    (frame-four (x ∷ s) (data-length (x ∷ s)))
+
+pub three-four-apart : ThreeFourApart
+three-four-apart s =
+    record {
+      three = exactly (number (received s)) 3 (not-whole s) (number-three s);
+      four = exactly (number (received s)) 4 (too-long s) (number-four s);
+      never-both = ap₂ (λ (a b : Bool). a && b) (sym (number-three s)) (sym (number-four s)) ∙ not-both (number (received s));
+    }
+
+Given : Received → Type 0
+Given r = has (number r) (0 ∷ 3 ∷ 4 ∷ 5 ∷ 6 ∷ 7 ∷ []) ≡ true
+
+given-updated : (s : List ℕ) (n : ℕ) → Given (updated s n)
+unfolding updated Given
+given-updated s n = pick-case Given (ltb n (length (text-space s))) _ _ (λ e. refl) (λ e. pick-case Given (ltb (length s) 1024) _ _ (λ h. refl) (λ h. refl))
+
+given-framed : (s : List ℕ) (n : ℕ) → Given (framed s n)
+unfolding framed checked Given
+given-framed s n =
+    pick-case Given (ltb (length s) 3) _ _ (λ e. refl) (λ e.
+    pick-case Given (ltb 550 n) _ _ (λ h. refl) (λ h.
+    pick-case Given (ltb (length s) (n + 4)) _ _ (λ g. refl) (λ g.
+    checked-case Given s n refl (λ i. refl) (λ i. refl) (λ i. refl))))
+
+pub numbers-given : NumbersGiven
+unfolding received Given
+numbers-given s =
+    pick-case Given (eqb (length s) 0) _ _ (λ e. refl) (λ e.
+    pick-case Given (eqb (getD s 0 0) enquiry) _ _ (λ h. refl) (λ h.
+    pick-case Given (eqb (getD s 0 0) update-opens) _ _ (λ g. given-updated s (run update-closes (text-space s))) (λ g. given-framed s (data-length s))))

@@ -1,0 +1,129 @@
+-- What the proofs of all three crates share: a set that turns the tests on the way to a return into the values of a rule's tests, and the laws of such tests, of a buffer that is written from its front, and of an update's text.
+use Prim.Native.Nat.{ℕ, zero, suc, _+_, _-_, _≤_, _<_, min}
+use mathlib.Core.Bool.{Bool, true, false}
+use mathlib.Core.List.{List, [], _∷_, _++_, append-assoc, append-nil}
+use mathlib.Core.Path.{_≡_, refl, sym, _∙_, ap, ap₂, subst}
+use native.Mathlib.Nat.{not-suc-le-zero, le-of-suc-le-suc}
+use native.Mathlib.Numerals.{add-one}
+use native.Mathlib.Omega.{arith}
+use borrow.Author.Needs.{needs}
+use borrow.Author.Tests.{eq-eqb, ne-eqb, lt-ltb, le-ltb, le-leb, lt-leb}
+use borrow.Rule.Slice.PartMut.{midOf, putMid}
+use lib.Dec.{eqb}
+use lib.ListN.{length, getD, take, drop, set, length-append, length-take, length-drop, drop-of-length-le}
+use lib.Seq.{drop-cons, drop-drop, append-snoc, set-at, take-at, drop-at, take-all, take-length, getD-take, getD-drop}
+use Rattle.frame.specs.Ground.{pick, unless, over}
+use Rattle.frame.specs.Receive.{run, text-space}
+use Rattle.frame.specs.Build.{Lays}
+
+pub ruleset tests = (eq-eqb, ne-eqb, lt-ltb, le-ltb, le-leb, lt-leb, needs)
+
+-- ---- Ways through a chain of tests.
+pub pick-case : {A : Type 0} (P : A → Type 0) (b : Bool) (x y : A) → (b ≡ true → P x) → (b ≡ false → P y) → P (pick b x y)
+pick-case P true x y p q = p refl
+pick-case P false x y p q = q refl
+
+pub unless-case : {A : Type 0} (P : A → Type 0) (b : Bool) (x y : A) → P x → P y → P (unless b x y)
+unless-case P true x y p q = q
+unless-case P false x y p q = p
+
+pub pick-other : {A : Type 0} (b : Bool) (x y z : A) → z ≡ pick b x y → (z ≡ x → ⊥) → (b ≡ false) × (z ≡ y)
+pick-other true x y z e n = absurd (n e)
+pick-other false x y z e n = (refl, e)
+
+pub unless-other : {A : Type 0} (b : Bool) (x y z : A) → z ≡ unless b x y → (z ≡ x → ⊥) → (b ≡ true) × (z ≡ y)
+unless-other true x y z e n = (refl, e)
+unless-other false x y z e n = absurd (n e)
+
+-- ---- A buffer of which the first n bytes are those of s.
+copied-suc : (s before : List ℕ) (n : ℕ) → n < length s → n < length before → set (take n s ++ drop n before) n (getD s n 0) ≡ take (suc n) s ++ drop (suc n) before
+copied-suc [] before n h g = absurd (not-suc-le-zero h)
+copied-suc (x ∷ s) [] n h g = absurd (not-suc-le-zero g)
+copied-suc (x ∷ s) (y ∷ before) zero h g = refl
+copied-suc (x ∷ s) (y ∷ before) (suc n) h g = ap (λ (l : List ℕ). x ∷ l) (copied-suc s before n (le-of-suc-le-suc h) (le-of-suc-le-suc g))
+
+pub copied-more : (s before : List ℕ) (n : ℕ) → n < length s → n < length before → set (take n s ++ drop n before) n (getD s n 0) ≡ take (n + 1) s ++ drop (n + 1) before
+copied-more s before n h g = rw add-one (copied-suc s before n h g)
+
+pub copied-all : (s before : List ℕ) (n : ℕ) → n ≡ length s → take n s ++ drop n before ≡ over s before
+copied-all s before n e = rw (e, take-length)
+
+-- ---- A buffer with bytes laid over its front: one more byte, more bytes, and the part behind them when it was lent.
+pub length-over : (w before : List ℕ) → length w ≤ length before → length (over w before) ≡ length before
+length-over w before h = simp (length-append, length-drop) (omega arith)
+
+pub over-next : (w before : List ℕ) (n v : ℕ) → length w ≡ n → n < length before → set (over w before) n v ≡ over (w ++ (v ∷ [])) before
+over-next w before n v e h =
+    ap (λ (l : List ℕ). set (w ++ l) n v) (drop-cons before (length w) 0 (omega arith))
+    ∙ set-at w (getD before (length w) 0) (drop (suc (length w)) before) v n e
+    ∙ sym (append-snoc w v (drop (suc (length w)) before))
+    ∙ ap (λ (k : ℕ). (w ++ (v ∷ [])) ++ drop k before) (longer w v)
+  where
+    longer : (w : List ℕ) (v : ℕ) → suc (length w) ≡ length (w ++ (v ∷ []))
+    longer w v = simp length-append (omega arith)
+
+pub over-over : (w more before : List ℕ) → w ++ over more (drop (length w) before) ≡ over (w ++ more) before
+over-over w more before = simp (append-assoc, drop-drop, length-append)
+
+pub lent-tail : (a : ℕ) (xs : List ℕ) → midOf a (length xs - a) xs ≡ drop a xs
+lent-tail a xs = take-all (length xs - a) (drop a xs) (simp length-drop (omega arith))
+
+pub tail-back : (a : ℕ) (xs ys : List ℕ) → putMid a (length xs - a) xs ys ≡ take a xs ++ ys
+tail-back a xs ys =
+    ap (λ (l : List ℕ). take a xs ++ (ys ++ l)) (drop-of-length-le (drop a xs) {i = length xs - a} (simp length-drop (omega arith)))
+    ∙ ap (λ (l : List ℕ). take a xs ++ l) (append-nil ys)
+
+pub tail-laid : (a : ℕ) (w more before : List ℕ) → length w ≡ a → a ≤ length before
+    → putMid a (length (over w before) - a) (over w before) (over more (midOf a (length (over w before) - a) (over w before))) ≡ over (w ++ more) before
+tail-laid a w more before e h =
+    tail-back a (over w before) (over more (midOf a (length (over w before) - a) (over w before)))
+    ∙ ap₂ (λ (p q : List ℕ). p ++ over more q) (take-at w (drop (length w) before) a e) (lent-tail a (over w before) ∙ drop-at w (drop (length w) before) a e)
+    ∙ over-over w more before
+
+laid-here : (a : ℕ) (w d before last : List ℕ) (r : Bool) → length w ≡ a → a + length d ≤ length before
+    → Lays (midOf a (length (over w before) - a) (over w before)) d r last → putMid a (length (over w before) - a) (over w before) last ≡ over (w ++ d) before
+laid-here a w d before last r e h p =
+    let xs : List ℕ = over w before in
+    let part : List ℕ = midOf a (length xs - a) xs in
+    ap (λ (l : List ℕ). putMid a (length xs - a) xs l) (p .buffer ∙ ap (λ (b : Bool). over (pick b d []) part) (le-leb _ _ (room a w d before e h)))
+    ∙ tail-laid a w d before e (omega arith)
+  where
+    room : (a : ℕ) (w d before : List ℕ) → length w ≡ a → a + length d ≤ length before → length d ≤ length (midOf a (length (over w before) - a) (over w before))
+    room a w d before e h = rw lent-tail (simp length-drop (omega (arith, length-over w before (omega arith))))
+
+-- What `lay` leaves in a buffer whose part from a on it was lent, where w stands before a.
+pub laid-behind : (a : ℕ) (w d before last : List ℕ) (r : Bool) (xs : List ℕ) → length w ≡ a → a + length d ≤ length before → xs ≡ over w before
+    → Lays (midOf a (length xs - a) xs) d r last → putMid a (length xs - a) xs last ≡ over (w ++ d) before
+laid-behind a w d before last r xs e h q p =
+    subst (λ (l : List ℕ). Lays (midOf a (length l - a) l) d r last → putMid a (length l - a) l last ≡ over (w ++ d) before) (sym q) (laid-here a w d before last r e h) p
+
+-- ---- The bytes before the first b.
+pub run-here : (b : ℕ) (s : List ℕ) (n : ℕ) → n < length s → getD s n 0 ≡ b → run b (drop n s) ≡ 0
+run-here b s n h e = rw (drop-cons s n 0 h, eq-eqb (getD s n 0) b e)
+
+pub run-past : (b : ℕ) (s : List ℕ) (n : ℕ) → n < length s → (getD s n 0 ≡ b → ⊥) → run b (drop n s) ≡ run b (drop (n + 1) s) + 1
+run-past b s n h e = rw (add-one n, drop-cons s n 0 h, ne-eqb (getD s n 0) b e)
+
+pub run-end : (b : ℕ) (s : List ℕ) (n : ℕ) → length s ≤ n → run b (drop n s) ≡ 0
+run-end b s n h = rw (drop-of-length-le s {i = n} h)
+
+-- The first b and what stands before it give the count, whatever stands behind.
+pub run-kept : (b : ℕ) (s rest : List ℕ) → run b s < length s → run b (take (suc (run b s)) s ++ rest) ≡ run b s
+run-kept b [] rest h = absurd (not-suc-le-zero h)
+run-kept b (x ∷ s) rest h = go (eqb x b) refl (λ g. run-kept b s rest g)
+  where
+    go : (t : Bool) → eqb x b ≡ t → (run b s < length s → run b (take (suc (run b s)) s ++ rest) ≡ run b s)
+        → run b (take (suc (run b (x ∷ s))) (x ∷ s) ++ rest) ≡ run b (x ∷ s)
+    go true e again = rw e
+    go false e again =
+        let g : run b s + 1 < suc (length s) = rw e at h in
+        rw e (ap (λ (k : ℕ). k + 1) (rw add-one (again (omega arith))))
+
+pub text-length : (s : List ℕ) → length (text-space s) ≡ min 1023 (length s - 1)
+text-length s = simp (length-take, length-drop)
+
+pub text-at : (s : List ℕ) (n : ℕ) → n < 1023 → getD (text-space s) n 0 ≡ getD s (n + 1) 0
+text-at s n h = getD-take 1023 (drop 1 s) n 0 h ∙ getD-drop 1 s n 0 ∙ ap (λ (k : ℕ). getD s k 0) (swap n)
+  where
+    swap : (n : ℕ) → 1 + n ≡ n + 1
+    swap n = omega arith

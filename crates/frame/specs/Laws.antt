@@ -1,0 +1,129 @@
+-- What document 01 promises of frames as a whole, as statements over the rules: what is built is read back, what is consumed is whole, 3 and 4 exclude each other, no contract allows a second outcome.
+use Prim.Native.Nat.{ℕ, _+_, _≤_}
+use mathlib.Core.Bool.{Bool, true, false, not, _&&_, _||_}
+use mathlib.Core.List.{List, [], _∷_, _++_}
+use mathlib.Core.Logic.{_↔_}
+use mathlib.Core.Path.{_≡_}
+use lib.Dec.{eqb, leb, ltb}
+use lib.ListN.{length, getD, take, drop}
+use Rattle.frame.specs.Ground.{pick}
+use Rattle.frame.specs.Wire.{enquiry, update-opens, update-closes, size-of, listed, fits}
+use Rattle.frame.specs.Receive.{received, data-length, number, consumed, Receives}
+use Rattle.frame.specs.Build.{frame, Lays, Answers, Builds}
+use Rattle.frame.specs.declared.receive.Received.{Received}
+use Rattle.frame.specs.declared.receive.Received.the-variants.{Partial, Refused, Misfit, Enquiry, Update, Frame}
+use Rattle.frame.specs.declared.build.Built.{Built}
+use Rattle.frame.specs.declared.build.Built.the-variants.{Written}
+
+-- What the box hears of a frame: its identifier and its data.
+pub data Heard : Type 0 where
+  nothing : Heard
+  heard : ℕ → List ℕ → Heard
+
+abbrev pub heard-in : List ℕ → Received → Heard
+heard-in s Partial = nothing
+heard-in s (Refused k c) = nothing
+heard-in s (Misfit k i n c) = heard i (take n (drop 3 s))
+heard-in s Enquiry = nothing
+heard-in s (Update n c) = nothing
+heard-in s (Frame i n c) = heard i (take n (drop 3 s))
+
+-- 01, Other calls: "Identifier and data are read back also where 7 to 13 then follow."
+pub record ReadsBack (s : List ℕ) (identifier : ℕ) (d : List ℕ) : Type 0 where
+  pub answer :
+      received s ≡
+      pick (fits (size-of identifier) (length d)) (Frame identifier (length d) (length d + 4)) (Misfit 7 identifier (length d) (length d + 4))
+  pub gives : number (received s) ≡ pick (fits (size-of identifier) (length d)) 0 7
+  pub hears : heard-in s (received s) ≡ heard identifier d
+
+-- A frame with an identifier of the table, whatever stands behind it.
+abbrev pub ReadBack : Type 0
+ReadBack =
+    (identifier : ℕ) (d rest : List ℕ) → listed (size-of identifier) ≡ true → length d ≤ 550
+    → ReadsBack (frame identifier d ++ rest) identifier d
+
+-- The bytes that `build` says it wrote.
+abbrev pub BuiltReadBack : Type 0
+BuiltReadBack =
+    (before : List ℕ) (identifier : ℕ) (d : List ℕ) (n : ℕ) (after rest : List ℕ)
+    → Builds before identifier d (Written n) after → ReadsBack (take n after ++ rest) identifier d
+
+-- The bytes that `answer` says it wrote, also with an identifier that stands only in answers.
+abbrev pub AnswerReadBack : Type 0
+AnswerReadBack =
+    (before : List ℕ) (identifier : ℕ) (d : List ℕ) (n : ℕ) (after rest : List ℕ)
+    → (identifier ≡ enquiry → ⊥) → (identifier ≡ update-opens → ⊥)
+    → Answers before identifier d (Written n) after → heard-in (take n after ++ rest) (received (take n after ++ rest)) ≡ heard identifier d
+
+-- 01, Numbers: consumed is "the frame, update or 05h". It is received the same whatever stands behind it, and what stands behind it is left as it came.
+pub record Whole (s : List ℕ) (r : Received) : Type 0 where
+  pub inside : consumed r ≤ length s
+  pub same : (rest : List ℕ) → received (take (consumed r) s ++ rest) ≡ r
+  pub behind : (rest : List ℕ) → drop (consumed r) (take (consumed r) s ++ rest) ≡ rest
+
+abbrev pub ConsumedWhole : Type 0
+ConsumedWhole = (s : List ℕ) → (number (received s) ≡ 3 → ⊥) → (number (received s) ≡ 4 → ⊥) → Whole s (received s)
+
+abbrev pub FrameWhole : Type 0
+FrameWhole = (s : List ℕ) (i n c : ℕ) → received s ≡ Frame i n c → (c ≡ n + 4) × Whole s (Frame i n c)
+
+abbrev pub ConsumedInside : Type 0
+ConsumedInside = (s : List ℕ) → consumed (received s) ≤ length s
+
+-- Whether b is among the bytes.
+abbrev pub has : ℕ → List ℕ → Bool
+has b [] = false
+has b (x ∷ s) = eqb x b || has b s
+
+-- 01, Numbers: "a frame is not whole with fewer than three bytes, or with a length up to 550 and fewer than length + 4;
+-- an update is not whole with fewer than 1,024 bytes and no 03h." No bytes are not whole, a 05h always is.
+unfoldable pub not-whole : List ℕ → Bool
+not-whole s =
+    pick (eqb (length s) 0) true
+    (pick (eqb (getD s 0 0) enquiry) false
+    (pick (eqb (getD s 0 0) update-opens) (ltb (length s) 1024 && not (has update-closes s))
+    (ltb (length s) 3 || (leb (data-length s) 550 && ltb (length s) (data-length s + 4)))))
+
+-- 01, Numbers: 4 "length over 550; or 1,024 bytes from 02h on without 03h". "A 03h counts only within those 1,024 bytes."
+unfoldable pub too-long : List ℕ → Bool
+too-long s =
+    pick (eqb (length s) 0) false
+    (pick (eqb (getD s 0 0) enquiry) false
+    (pick (eqb (getD s 0 0) update-opens) (leb 1024 (length s) && not (has update-closes (take 1024 s)))
+    (leb 3 (length s) && ltb 550 (data-length s))))
+
+-- 01, Numbers: "3 and 4 exclude each other".
+pub record Apart (s : List ℕ) : Type 0 where
+  pub three : (number (received s) ≡ 3) ↔ (not-whole s ≡ true)
+  pub four : (number (received s) ≡ 4) ↔ (too-long s ≡ true)
+  pub never-both : (not-whole s && too-long s) ≡ false
+
+abbrev pub ThreeFourApart : Type 0
+ThreeFourApart = (s : List ℕ) → Apart s
+
+-- 01, Numbers: the receiver gives no other number than these.
+abbrev pub NumbersGiven : Type 0
+NumbersGiven = (s : List ℕ) → has (number (received s)) (0 ∷ 3 ∷ 4 ∷ 5 ∷ 6 ∷ 7 ∷ []) ≡ true
+
+-- 01, What the proofs owe us: "that no second outcome satisfies it is proved". First for every call whose contract says no more
+-- than that its result is a rule's value: `word`, `check`, `size_of`, `listed`, `fits`; then for each of the others.
+abbrev pub ResultOnce : Type 1
+ResultOnce = (A : Type 0) (rule r r′ : A) → r ≡ rule → r′ ≡ rule → r ≡ r′
+
+abbrev pub ReceiveOnce : Type 0
+ReceiveOnce = (s : List ℕ) (r r′ : Received) → Receives s r → Receives s r′ → r ≡ r′
+
+abbrev pub LayOnce : Type 0
+LayOnce =
+    (before bytes : List ℕ) (r r′ : Bool) (after after′ : List ℕ)
+    → Lays before bytes r after → Lays before bytes r′ after′ → (r ≡ r′) × (after ≡ after′)
+
+abbrev pub AnswerOnce : Type 0
+AnswerOnce =
+    (before : List ℕ) (identifier : ℕ) (d : List ℕ) (r r′ : Built) (after after′ : List ℕ)
+    → Answers before identifier d r after → Answers before identifier d r′ after′ → (r ≡ r′) × (after ≡ after′)
+
+abbrev pub BuildOnce : Type 0
+BuildOnce =
+    (before : List ℕ) (identifier : ℕ) (d : List ℕ) (r r′ : Built) (after after′ : List ℕ)
+    → Builds before identifier d r after → Builds before identifier d r′ after′ → (r ≡ r′) × (after ≡ after′)

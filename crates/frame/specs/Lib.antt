@@ -1,0 +1,6 @@
+-- The rules of `frame`: `Ground` has the words that all three crates share, each room of src/ has its page of rules, and `Laws` says what holds of them together.
+pub mod Ground
+pub mod Wire
+pub mod Receive
+pub mod Build
+pub mod Laws

@@ -1,0 +1,87 @@
+// The check byte, numbers of two bytes and the table of identifiers.
+ghost use mathlib.Core.Path.{_≡_};
+ghost use Prim.Native.Nat.{_<_};
+ghost use Rattle.frame.specs.Wire.{check, fits, listed, size-of, word};
+
+// How many data bytes an identifier asks for.
+pub enum Size {
+    Exactly(usize),
+    AtLeast(usize),
+    Unlisted,
+}
+
+// The number that two bytes give, the high byte first.
+pub fn word(high: u8, low: u8) -> usize
+    ensures { λ r. ⌜ (r ≡ word high low) × (r < 65536) ⌝ }
+{
+    (high as usize) * 256 + (low as usize)
+}
+
+// The exclusive OR of all bytes.
+pub fn check(s: &[u8]) -> u8
+    ensures { λ r. ⌜ r ≡ check (now (s .entry)) ⌝ }
+{
+    let mut c: u8 = 0;
+    let mut i = 0;
+    while i < s.len() {
+        c = c ^ s[i];
+        i += 1;
+    }
+    c
+}
+
+// The table of document 01, a row for each identifier.
+pub fn size_of(identifier: u8) -> Size
+    ensures { λ r. ⌜ r ≡ size-of identifier ⌝ }
+{
+    if identifier == 0x0A {
+        return Size::AtLeast(2);
+    }
+    if identifier == 0x0B {
+        return Size::Exactly(38);
+    }
+    if identifier == 0x0C {
+        return Size::AtLeast(39);
+    }
+    if identifier == 0x39 {
+        return Size::Exactly(1);
+    }
+    if identifier == 0x42 {
+        return Size::AtLeast(4);
+    }
+    if identifier == 0x43 {
+        return Size::Exactly(1);
+    }
+    if identifier == 0x52 {
+        return Size::Exactly(0);
+    }
+    if identifier == 0x94 {
+        return Size::Exactly(0);
+    }
+    if identifier == 0xD6 {
+        return Size::Exactly(0);
+    }
+    Size::Unlisted
+}
+
+// Whether the identifier stands in the table.
+pub fn listed(size: Size) -> bool
+    ensures { λ r. ⌜ r ≡ listed size ⌝ }
+{
+    match size {
+        Size::Exactly(_) => true,
+        Size::AtLeast(_) => true,
+        Size::Unlisted => false,
+    }
+}
+
+// Whether n data bytes are as the table says.
+pub fn fits(size: Size, n: usize) -> bool
+    ensures { λ r. ⌜ r ≡ fits size n ⌝ }
+{
+    match size {
+        Size::Exactly(k) => n == k,
+        Size::AtLeast(k) => k <= n,
+        Size::Unlisted => false,
+    }
+}
