@@ -7,12 +7,12 @@ use native.Mathlib.Nat.{not-suc-le-zero, le-of-suc-le-suc}
 use native.Mathlib.Numerals.{add-one}
 use native.Mathlib.Omega.{arith}
 use borrow.Author.Needs.{needs}
-use borrow.Author.Tests.{eq-eqb, ne-eqb, lt-ltb, le-ltb, le-leb, lt-leb}
+use borrow.Author.Tests.{eq-eqb, ne-eqb, lt-ltb, le-ltb, le-leb, lt-leb, leb-true, ltb-true, ltb-false}
 use borrow.Rule.Slice.PartMut.{midOf, putMid}
-use lib.Dec.{eqb}
-use lib.ListN.{length, getD, take, drop, set, length-append, length-take, length-drop, drop-of-length-le}
+use lib.Dec.{eqb, leb, ltb}
+use lib.ListN.{length, getD, take, drop, set, length-append, length-take, length-drop, drop-of-length-le, List·getD-eq-default}
 use lib.Seq.{drop-cons, drop-drop, append-snoc, set-at, take-at, drop-at, take-all, take-length, getD-take, getD-drop}
-use Rattle.frame.specs.Ground.{pick, unless, over}
+use Rattle.frame.specs.Ground.{pick, unless, over, both, within}
 use Rattle.frame.specs.Receive.{run, text-space}
 use Rattle.frame.specs.Build.{Lays}
 
@@ -34,6 +34,44 @@ pick-other false x y z e n = (refl, e)
 pub unless-other : {A : Type 0} (b : Bool) (x y z : A) → z ≡ unless b x y → (z ≡ x → ⊥) → (b ≡ true) × (z ≡ y)
 unless-other true x y z e n = (refl, e)
 unless-other false x y z e n = absurd (n e)
+
+-- ---- What tests tell.
+-- No test is both true and false.
+pub never : {A : Type 0} → false ≡ true → A
+never e = let z : _≡_ {A = ℕ} 0 1 = cc in absurd (omega arith)
+
+pub both-true : (x y : Bool) → both x y ≡ true → (x ≡ true) × (y ≡ true)
+both-true true y e = (refl, e)
+both-true false y e = never e
+
+pub true-both : (x y : Bool) → x ≡ true → y ≡ true → both x y ≡ true
+true-both x y p q = rw p q
+
+pub within-true : (least most n : ℕ) → within least most n ≡ true → (least ≤ n) × (n ≤ most)
+within-true least most n e =
+    let h = both-true (leb least n) (leb n most) e in
+    (leb-true least n (h .0), leb-true n most (h .1))
+
+pub true-within : (least most n : ℕ) → least ≤ n → n ≤ most → within least most n ≡ true
+true-within least most n p q = true-both (leb least n) (leb n most) (le-leb least n p) (le-leb n most q)
+
+-- What holds of either choice holds of the choice.
+pub of-pick : {A : Type 0} (P : A → Type 0) (x : Bool) (a b : A) → (x ≡ true → P a) → (x ≡ false → P b) → P (pick x a b)
+of-pick P true a b p q = p refl
+of-pick P false a b p q = q refl
+
+-- ---- A list that is read from a place on.
+-- One more byte.
+pub drop-next : (s : List ℕ) (i : ℕ) → i < length s → drop i s ≡ getD s i 0 ∷ drop (i + 1) s
+drop-next s i h = drop-cons s i 0 h ∙ ap (λ (n : ℕ). getD s i 0 ∷ drop n s) (sym (add-one i))
+
+-- A byte that is not 0, which `getD` gives behind the end, stands inside.
+pub stands : (s : List ℕ) (i : ℕ) → (getD s i 0 ≡ 0 → ⊥) → i < length s
+stands s i n = go (ltb i (length s)) refl
+  where
+    go : (t : Bool) → ltb i (length s) ≡ t → i < length s
+    go true h = ltb-true i (length s) h
+    go false h = absurd (n (List·getD-eq-default s 0 {n = i} (ltb-false i (length s) h)))
 
 -- ---- A buffer of which the first n bytes are those of s.
 copied-suc : (s before : List ℕ) (n : ℕ) → n < length s → n < length before → set (take n s ++ drop n before) n (getD s n 0) ≡ take (suc n) s ++ drop (suc n) before

@@ -1,0 +1,19 @@
+-- The proofs of `content`: the samples; what the machine makes of bytes and trees; and from there the laws of the language, of changes
+-- and of strips, and that every contract has one outcome.
+pub mod Laws
+pub mod Samples
+pub mod Bytes
+pub mod Good
+pub mod Run
+pub mod Trees
+pub mod Resolved
+pub mod Pieces
+pub mod Language
+pub mod Changes
+pub mod Writes
+pub mod Strips
+pub mod Name
+pub mod Unique
+pub mod Tokens
+pub mod Walk
+pub mod Puts

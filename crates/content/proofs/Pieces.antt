@@ -1,0 +1,242 @@
+-- What the machine makes of each piece of a good tree, written out: where it leads, what it puts before the rest that follows, and what
+-- it shows in a strip.
+use Prim.Native.Nat.{ℕ, _+_, _≤_, _<_}
+use mathlib.Core.Bool.{Bool, true, false}
+use mathlib.Core.List.{List, [], _∷_, _++_, append-assoc, append-nil, map}
+use mathlib.Core.Path.{_≡_, refl, ap, _∙_, sym}
+use native.Mathlib.Nat.{add-zero, add-assoc}
+use native.Mathlib.Omega.{arith}
+use borrow.Author.Tests.{lt-ltb}
+use lib.Dec.{eqb}
+use lib.ListN.{length}
+use Rattle.frame.specs.Ground.{pick}
+use Rattle.content.specs.Byte.{is-character, is-expansion, is-count, all-characters, kind-of, code-of}
+use Rattle.content.specs.Machine.{start, step, with-line, with-field, in-code}
+use Rattle.content.specs.Strip.{strip-from, shown-by, shown-code, printed, bytes-of, character-of}
+use Rattle.content.specs.Grammar.{Item, Block, Line, Tree, character, tabulation, counter, field, date, item-bytes, items-bytes, block-bytes, blocks-bytes, line-bytes, encode, is-code, all-codes, good-item, good-items, good-block, good-blocks, good-line, good-lines, item-fields, items-fields, blocks-fields, lines-fields, code-text, date-text, stands-for, resolved-items, resolved-block, resolved}
+use Rattle.content.specs.Tree.{Rest, nothing, before, with-block, with-line as line-before, rest}
+use Rattle.content.specs.declared.byte.Coded.{Coded}
+use Rattle.content.specs.declared.byte.Coded.the-variants as coded
+use Rattle.content.specs.declared.machine.Place.the-variants as place
+use Rattle.content.specs.declared.machine.Seen.{Seen}
+use Rattle.content.specs.declared.machine.Spot.{Spot}
+use Rattle.content.specs.declared.machine.Spot.the-variants as spot
+use Rattle.content.specs.declared.machine.Mode.{Mode}
+use Rattle.content.specs.declared.machine.Mode.the-variants.{Reading, Done}
+use Rattle.content.specs.declared.strip.Values.{Values}
+use Rattle.content.specs.declared.strip.Shown.the-variants.{Nothing, Byte}
+use Rattle.frame.proofs.Laws.{never, both-true}
+use Rattle.content.proofs.Bytes.{kind-of-character, kind-of-expansion, character-is-no-mark, expansion-is-no-mark, code-is-no-mark}
+use Rattle.content.proofs.Good.{GoodTree}
+use Rattle.content.proofs.Resolved.{characters-bytes, items-bytes-append}
+use Rattle.content.proofs.Run.{run}
+
+-- What bytes put before the rest that follows them.
+abbrev befores : Mode → List ℕ → Rest → Rest
+befores m [] r = r
+befores m (b ∷ s) r = before m b (befores (step m b) s r)
+
+-- The bytes p lead from m to n, put what they hold before r, which makes it r′, and show as x.
+pub record Piece (v : Values) (m : Mode) (p : List ℕ) (n : Mode) (r r′ : Rest) (x : List ℕ) : Type 0 where
+  pub leads : run m p ≡ n
+  pub builds : befores m p r ≡ r′
+  pub shows : strip-from v m p ≡ x
+
+run-append : (m : Mode) (p q : List ℕ) → run m (p ++ q) ≡ run (run m p) q
+run-append m [] q = refl
+run-append m (b ∷ p) q = run-append (step m b) p q
+
+befores-append : (m : Mode) (p q : List ℕ) (r : Rest) → befores m (p ++ q) r ≡ befores m p (befores (run m p) q r)
+befores-append m [] q r = refl
+befores-append m (b ∷ p) q r = ap (before m b) (befores-append (step m b) p q r)
+
+pub strip-append :
+    (v : Values) (m : Mode) (p q : List ℕ) → strip-from v m (p ++ q) ≡ strip-from v m p ++ strip-from v (run m p) q
+strip-append v m [] q = refl
+strip-append v m (b ∷ p) q = rw (strip-append v (step m b) p q, append-assoc)
+
+-- Nothing, a byte and a piece, and two pieces in a row.
+module _ {v : Values} where
+  none : {m : Mode} {r : Rest} → Piece v m [] m r r []
+  none = record { leads = refl; builds = refl; shows = refl }
+
+  byte-then :
+      {m n o : Mode} {b : ℕ} {q : List ℕ} {r r′ r″ : Rest} {x y : List ℕ} → Piece v n q o r r′ y →
+      step m b ≡ n → before m b r′ ≡ r″ → bytes-of v (shown-by v m b) ++ y ≡ x → Piece v m (b ∷ q) o r r″ x
+  byte-then h e f g = record { leads = rw e (h .leads); builds = rw (e, h .builds) f; shows = rw (e, h .shows) g }
+
+  pub piece-then :
+      {m n o o′ : Mode} {p q : List ℕ} {r r′ r″ : Rest} {x y z : List ℕ} → Piece v m p n r′ r″ x → Piece v n q o r r′ y →
+      o ≡ o′ → x ++ y ≡ z → Piece v m (p ++ q) o′ r r″ z
+  piece-then {m} {p = p} {q = q} {r = r} h k e f =
+      record {
+        leads = run-append m p q ∙ rw (h .leads) (k .leads ∙ e);
+        builds = befores-append m p q r ∙ rw (h .leads, k .builds) (h .builds);
+        shows = strip-append v m p q ∙ rw (h .leads, h .shows, k .shows) f;
+      }
+
+abbrev pub in-block : Seen → Mode
+in-block seen = Reading (spot.Inside place.Block) seen
+
+-- At a spot, and in a block, with so many lines and fields begun.
+abbrev at : Spot → ℕ → ℕ → Mode
+at s l f = Reading s (record { lines = l; fields = f })
+
+abbrev block-at : ℕ → ℕ → Mode
+block-at l f = in-block (record { lines = l; fields = f })
+
+-- What is left of a content behind a place.
+abbrev pub behind : List ℕ → List Item → List Block → List Line → Rest
+behind cs is bs ls = record { letters = cs; items = is; font = 0; blocks = bs; lines = ls }
+
+in-code-stays : (k : Coded) (seen : Seen) → is-code k ≡ true → in-code k seen ≡ Reading (spot.Inside place.Date) seen
+in-code-stays (coded.Code c) seen e = refl
+in-code-stays coded.Not seen e = never e
+
+code-shown : (v : Values) (k : Coded) → bytes-of v (shown-code v k) ≡ code-text v k
+unfolding printed
+code-shown v (coded.Code c) = one (character-of v c) (eqb (character-of v c) 0x00)
+  where
+    one : (b : ℕ) (x : Bool) → bytes-of v (pick x Nothing (Byte b)) ≡ pick x [] (b ∷ [])
+    one b true = refl
+    one b false = refl
+code-shown v coded.Not = refl
+
+module _ (v : Values) (is : List Item) (bs : List Block) (ls : List Line) where
+  letters-piece :
+      (seen : Seen) (cs : List ℕ) → all-characters cs ≡ true →
+      Piece v (Reading (spot.Inside place.Field) seen) (cs ++ (0x12 ∷ [])) (in-block seen)
+      (behind [] is bs ls) (behind cs is bs ls) cs
+  unfolding kind-of
+  letters-piece seen [] e = byte-then none refl refl refl
+  letters-piece seen (c ∷ cs) e =
+      let g = both-true (is-character c) (all-characters cs) e in
+      let n = character-is-no-mark c 0x12 (g .0) (omega arith) in
+      byte-then (letters-piece seen cs (g .1)) (rw (kind-of-character c (g .0))) (rw n) (rw n)
+
+  codes-piece :
+      (seen : Seen) (cs : List ℕ) → all-codes cs ≡ true →
+      Piece v (Reading (spot.Inside place.Date) seen) (cs ++ (0x1B ∷ [])) (in-block seen)
+      (behind [] is bs ls) (behind cs is bs ls) (date-text v cs)
+  codes-piece seen [] e = byte-then none refl refl refl
+  codes-piece seen (c ∷ cs) e =
+      let g = both-true (is-code (code-of c)) (all-codes cs) e in
+      let n = code-is-no-mark c (g .0) in
+      byte-then (codes-piece seen cs (g .1)) (rw n (in-code-stays (code-of c) seen (g .0))) (rw n) (rw (n, code-shown v (code-of c)))
+
+  pub character-piece :
+      (seen : Seen) (c : ℕ) → is-character c ≡ true →
+      Piece v (in-block seen) (c ∷ []) (in-block seen)
+      (behind [] is bs ls) (behind [] (character c ∷ is) bs ls) (c ∷ [])
+  character-piece seen c g =
+      byte-then none (rw (kind-of-character c g)) (rw (kind-of-character c g))
+      (rw (character-is-no-mark c 0x12 g (omega arith), character-is-no-mark c 0x1B g (omega arith), character-is-no-mark c 0x1C g (omega arith)))
+
+  pub date-piece :
+      (seen : Seen) (cs : List ℕ) → all-codes cs ≡ true →
+      Piece v (in-block seen) (0x1B ∷ cs ++ (0x1B ∷ [])) (in-block seen)
+      (behind [] is bs ls) (behind [] (date cs ∷ is) bs ls) (date-text v cs)
+  unfolding kind-of
+  date-piece seen cs g = byte-then (codes-piece seen cs g) refl refl refl
+
+  item-piece :
+      (i : Item) (l f : ℕ) → good-item i ≡ true → f + item-fields i ≤ 10 →
+      Piece v (block-at l f) (item-bytes i) (block-at l (f + item-fields i))
+      (behind [] is bs ls) (behind [] (i ∷ is) bs ls) (items-bytes (stands-for v i))
+  unfolding kind-of with-field
+  item-piece (character c) l f g h = rw add-zero (character-piece _ c g)
+  item-piece (tabulation n) l f g h = record { leads = rw (g, add-zero); builds = rw g; shows = rw g }
+  item-piece (counter n) l f g h =
+      record { leads = rw (g, add-zero); builds = rw g; shows = rw (g, append-nil (v .digits), characters-bytes) }
+  item-piece (field cs) l f g h =
+      byte-then (letters-piece _ cs g) (rw (lt-ltb f 10 (omega arith))) refl (sym (characters-bytes cs))
+  item-piece (date cs) l f g h = rw (add-zero, characters-bytes) (date-piece _ cs g)
+
+-- The two spots at which a block may begin, and the two at which a line may.
+data BeginsBlock : Spot → Type 0 where
+  first : BeginsBlock spot.Expansion
+  next : BeginsBlock (spot.Inside place.Block)
+
+data BeginsLine : Spot → Type 0 where
+  first : BeginsLine spot.Line
+  next : BeginsLine (spot.Inside place.Block)
+
+module _ (v : Values) where
+  items-piece :
+      (is : List Item) (bs : List Block) (ls : List Line) (l f : ℕ) → good-items is ≡ true → f + items-fields is ≤ 10 →
+      Piece v (block-at l f) (items-bytes is) (block-at l (f + items-fields is))
+      (behind [] [] bs ls) (behind [] is bs ls) (items-bytes (resolved-items v is))
+  items-piece [] bs ls l f g h = rw add-zero none
+  items-piece (i ∷ is) bs ls l f g h =
+      let k = both-true (good-item i) (good-items is) g in
+      piece-then (item-piece v is bs ls i l f (k .0) (omega arith)) (items-piece is bs ls l (f + item-fields i) (k .1) (omega arith))
+      (rw add-assoc) (sym (items-bytes-append (stands-for v i) (resolved-items v is)))
+
+  expansion-then :
+      {s : Spot} {o : Mode} {q y : List ℕ} {r r′ : Rest} (l f e : ℕ) → BeginsBlock s → is-expansion e ≡ true →
+      Piece v (at spot.Font l f) q o r r′ y → Piece v (at s l f) (e ∷ q) o r (with-block e r′) (e ∷ y)
+  expansion-then l f e first g p = byte-then p (rw g) refl refl
+  expansion-then l f e next g p =
+      byte-then p (rw (kind-of-expansion e g)) (rw (kind-of-expansion e g))
+      (rw (expansion-is-no-mark e 0x12 g (omega arith), expansion-is-no-mark e 0x1B g (omega arith), expansion-is-no-mark e 0x1C g (omega arith)))
+
+  block-piece :
+      (b : Block) (bs : List Block) (ls : List Line) (s : Spot) (l f : ℕ) → BeginsBlock s → good-block b ≡ true →
+      f + items-fields (b .items) ≤ 10 →
+      Piece v (at s l f) (block-bytes b) (block-at l (f + items-fields (b .items)))
+      (behind [] [] bs ls) (behind [] [] (b ∷ bs) ls) (block-bytes (resolved-block v b))
+  block-piece b bs ls s l f begins g h =
+      let k = both-true (is-expansion (b .expansion)) _ g in
+      let n = both-true (is-count (b .font)) (good-items (b .items)) (k .1) in
+      expansion-then l f (b .expansion) begins (k .0)
+      (byte-then (items-piece (b .items) bs ls l f (n .1) h) (rw (n .0)) refl refl)
+
+  blocks-piece :
+      (b : Block) (bs : List Block) (ls : List Line) (s : Spot) (l f : ℕ) → BeginsBlock s → good-blocks (b ∷ bs) ≡ true →
+      f + blocks-fields (b ∷ bs) ≤ 10 →
+      Piece v (at s l f) (blocks-bytes (b ∷ bs)) (block-at l (f + blocks-fields (b ∷ bs)))
+      (behind [] [] [] ls) (behind [] [] (b ∷ bs) ls) (blocks-bytes (map (resolved-block v) (b ∷ bs)))
+  blocks-piece b [] ls s l f begins g h =
+      let k = both-true (good-block b) true g in
+      piece-then (block-piece b [] ls s l f begins (k .0) (omega arith)) none (rw add-zero) refl
+  blocks-piece b (c ∷ bs) ls s l f begins g h =
+      let k = both-true (good-block b) (good-blocks (c ∷ bs)) g in
+      piece-then (block-piece b (c ∷ bs) ls s l f begins (k .0) (omega arith))
+      (blocks-piece c bs ls _ l (f + items-fields (b .items)) next (k .1) (omega arith)) (rw add-assoc) refl
+
+  line-then :
+      {s : Spot} {o : Mode} {q y : List ℕ} {r r′ : Rest} (l f : ℕ) → BeginsLine s → l < 4 →
+      Piece v (at spot.Expansion (l + 1) f) q o r r′ y → Piece v (at s l f) (0x0A ∷ q) o r (line-before r′) (0x0A ∷ y)
+  unfolding kind-of with-line
+  line-then l f first h p = byte-then p (rw (lt-ltb l 4 h)) refl refl
+  line-then l f next h p = byte-then p (rw (lt-ltb l 4 h)) refl refl
+
+  line-piece :
+      (b : Line) (ls : List Line) (s : Spot) (l f : ℕ) → BeginsLine s → good-line b ≡ true → l < 4 → f + blocks-fields b ≤ 10 →
+      Piece v (at s l f) (line-bytes b) (block-at (l + 1) (f + blocks-fields b))
+      (behind [] [] [] ls) (behind [] [] [] (b ∷ ls)) (line-bytes (map (resolved-block v) b))
+  line-piece [] ls s l f begins g m h = never g
+  line-piece (b ∷ bs) ls s l f begins g m h = line-then l f begins m (blocks-piece b bs ls _ (l + 1) f first g h)
+
+  lines-piece :
+      (b : Line) (ls : List Line) (s : Spot) (l f : ℕ) → BeginsLine s → good-lines (b ∷ ls) ≡ true → l + length (b ∷ ls) ≤ 4 →
+      f + lines-fields (b ∷ ls) ≤ 10 →
+      Piece v (at s l f) (encode (b ∷ ls)) Done nothing (behind [] [] [] (b ∷ ls)) (encode (resolved v (b ∷ ls)))
+  unfolding kind-of
+  lines-piece b [] s l f begins g m h =
+      let k = both-true (good-line b) true g in
+      rw (append-nil (blocks-bytes b), append-nil (blocks-bytes (map (resolved-block v) b)))
+      (piece-then (line-piece b [] s l f begins (k .0) (omega arith) (omega arith)) (byte-then none refl refl refl) refl refl)
+  lines-piece b (c ∷ ls) s l f begins g m h =
+      let k = both-true (good-line b) (good-lines (c ∷ ls)) g in
+      rw (append-assoc (blocks-bytes b), append-assoc (blocks-bytes (map (resolved-block v) b)))
+      (piece-then (line-piece b (c ∷ ls) s l f begins (k .0) (omega arith) (omega arith))
+      (lines-piece c ls _ (l + 1) (f + blocks-fields b) next (k .1) (omega arith) (omega arith)) refl refl)
+
+  pub tree-piece : (t : Tree) → GoodTree t → Piece v start (encode t) Done nothing (behind [] [] [] t) (encode (resolved v t))
+  tree-piece [] g = absurd (omega arith)
+  tree-piece (b ∷ ls) g = lines-piece b ls spot.Line 0 0 first (g .lines) (omega arith) (omega arith)
+
+pub rest-befores : (m : Mode) (s : List ℕ) → rest m s ≡ befores m s nothing
+rest-befores m [] = refl
+rest-befores m (b ∷ s) = rw (rest-befores (step m b) s)

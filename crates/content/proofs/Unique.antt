@@ -1,0 +1,17 @@
+-- Every contract has one outcome: the answer is the rule's, and the bytes after go by the answer.
+use Rattle.content.specs.Unique.{ReadsUnique, TestsUnique, EditsUnique, UpdatesUnique, StripsUnique}
+
+pub reads-unique : ReadsUnique
+reads-unique s r r′ p q = cc
+
+pub tests-unique : TestsUnique
+tests-unique s r r′ p q = cc
+
+pub edits-unique : EditsUnique
+edits-unique before address symbols r r′ after after′ p q = ((cc), (cc))
+
+pub updates-unique : UpdatesUnique
+updates-unique before text from r r′ after after′ p q = ((cc), (cc))
+
+pub strips-unique : StripsUnique
+strips-unique v s before r r′ after after′ p q = ((cc), (cc))

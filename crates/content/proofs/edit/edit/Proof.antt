@@ -1,0 +1,141 @@
+-- `content::edit::edit` meets its contract. Each refusal comes before the first write. Symbols that all land on positions have room
+-- behind the address, so `lay` writes them there; with an address behind the end there are none, and the content is what it was.
+use Prim.Native.Nat.{ℕ, _+_, _-_, _≤_}
+use mathlib.Core.Bool.{Bool, true, false}
+use mathlib.Core.List.{List, [], _∷_, _++_, append-nil}
+use mathlib.Core.Path.{_≡_, refl, sym, _∙_, ap}
+use native.Mathlib.Nat.{add-zero, not-suc-le-zero}
+use native.Mathlib.Omega.{arith}
+use borrow.Author.Needs.{needs}
+use borrow.Author.Tests.{not-true, not-false}
+use borrow.Rule.Slice.PartMut.{midOf, putMid}
+use lib.ListN.{length, take, drop, length-append, length-drop, take-append-drop}
+use lib.Seq.{length-take-le}
+use Rattle.frame.specs.Build.{Lays}
+use Rattle.frame.specs.Ground.{over}
+use Rattle.frame.proofs.Laws.{laid-behind, both-true}
+use Rattle.content.specs.Byte.{all-characters}
+use Rattle.content.specs.Edit.{Edits, addressed, edited, replaced}
+use Rattle.content.specs.Machine.{start}
+use Rattle.content.specs.Position.{marks, is-position}
+use Rattle.content.specs.declared.edit.Edited.the-variants.{Done, NoPosition, NoCharacter}
+use Rattle.content.specs.declared.position.Mark.{Mark}
+use Rattle.content.proofs.Laws.{length-marks}
+use Rattle.content.proofs.edit.edit.Statement.{statement}
+use Rattle.content.proofs.edit.edit.Tie as tie
+
+on-marks : (symbols : List ℕ) (ms : List Mark) → addressed symbols ms ≡ true → length symbols ≤ length ms
+on-marks [] ms e = omega arith
+on-marks (x ∷ symbols) [] e = let z : _≡_ {A = ℕ} 0 1 = cc in omega arith
+on-marks (x ∷ symbols) (m ∷ ms) e = omega (arith, on-marks symbols ms (both-true (is-position m) (addressed symbols ms) e .1))
+
+module _ (s : List ℕ) (address : ℕ) (symbols : List ℕ) {t : Bool} (e : t ≡ addressed symbols (drop address (marks start s))) where
+  no-position : t ≡ false → Edits s address symbols NoPosition s
+  unfolding edited
+  no-position f = record { answer = rw (← e, f); bytes = refl }
+
+  no-character : {u : Bool} → t ≡ true → u ≡ all-characters symbols → u ≡ false → Edits s address symbols NoCharacter s
+  unfolding edited
+  no-character f g h = record { answer = rw (← e, f, ← g, h); bytes = refl }
+
+  done : {u : Bool} {after : List ℕ} → t ≡ true → u ≡ all-characters symbols → u ≡ true → after ≡ replaced s address symbols → Edits s address symbols Done after
+  unfolding edited
+  done f g h p = record { answer = rw (← e, f, ← g, h); bytes = p }
+
+  room : t ≡ true → length symbols ≤ length s - address
+  room f = omega (arith, on-marks symbols (drop address (marks start s)) (sym e ∙ f), length-drop address (marks start s), length-marks start s)
+
+written : (s : List ℕ) (address : ℕ) (symbols : List ℕ) {r : Bool} {last : List ℕ} → address ≤ length s → length symbols ≤ length s - address
+    → Lays (midOf address (length s - address) s) symbols r last → putMid address (length s - address) s last ≡ replaced s address symbols
+written s address symbols {r = r} {last = last} h g p =
+    let front : length (take address s) ≡ address = length-take-le address s h in
+    let whole : s ≡ over (take address s) s = rw front (sym (take-append-drop address s)) in
+    let end : length (take address s ++ symbols) ≡ address + length symbols = length-append (take address s) symbols ∙ ap (λ (n : ℕ). n + length symbols) front in
+    laid-behind address (take address s) symbols s last r s front (omega arith) whole p
+    ∙ ap (λ (n : ℕ). (take address s ++ symbols) ++ drop n s) end
+
+none : (s : List ℕ) (address : ℕ) (symbols : List ℕ) → length symbols ≤ 0 → s ≡ replaced s address symbols
+none s address [] h = rw (append-nil, add-zero) (sym (take-append-drop address s))
+none s address (x ∷ symbols) h = absurd (not-suc-le-zero h)
+
+addressed-requires : tie.Need-addressed-requires
+addressed-requires c κs = search needs
+
+same-length : tie.Need-same-length
+same-length c = search needs
+
+returns : tie.Need-returns
+returns c =
+    let a = c .before .before .before .before .before .args in
+    let p = c .before .addressed in
+    no-position (a .s .now) (a .address) (a .symbols .now) (p .ensures) (not-true (p .result) (c .if1 .taken))
+
+all-characters-requires : tie.Need-all-characters-requires
+all-characters-requires c κs = search needs
+
+same-length-2 : tie.Need-same-length-2
+same-length-2 c = search needs
+
+returns-2 : tie.Need-returns-2
+returns-2 c =
+    let a = c .before .before .before .before .before .before .before .args in
+    let p = c .before .before .before .addressed in
+    let q = c .before .all-characters in
+    no-character (a .s .now) (a .address) (a .symbols .now) (p .ensures) (not-false (p .result) (c .before .before .if1 .left)) (q .ensures) (not-true (q .result) (c .if2 .taken))
+
+sub-lay : tie.Need-sub-lay
+sub-lay c = search needs
+
+part-lay-start : tie.Need-part-lay-start
+part-lay-start c = search needs
+
+part-lay-end : tie.Need-part-lay-end
+part-lay-end c = search needs
+
+lay-requires : tie.Need-lay-requires
+lay-requires c κs = search needs
+
+same-length-3 : tie.Need-same-length-3
+same-length-3 c = search needs
+
+returns-3 : tie.Need-returns-3
+returns-3 c =
+    let d = c .before .before .before .before .before in
+    let a = d .before .before .before .before .before .before .before .args in
+    let p = d .before .before .before .addressed in
+    let q = d .before .all-characters in
+    let f = not-false (p .result) (d .before .before .if1 .left) in
+    let laid = written (a .s .now) (a .address) (a .symbols .now) (c .before .before .before .before .if3 .taken) (room (a .s .now) (a .address) (a .symbols .now) (p .ensures) f) (c .before .before .lay .ensures) in
+    done (a .s .now) (a .address) (a .symbols .now) (p .ensures) f (q .ensures) (not-false (q .result) (d .if2 .left)) laid
+
+same-length-4 : tie.Need-same-length-4
+same-length-4 c = search needs
+
+returns-4 : tie.Need-returns-4
+returns-4 c =
+    let d = c .before in
+    let a = d .before .before .before .before .before .before .before .args in
+    let p = d .before .before .before .addressed in
+    let q = d .before .all-characters in
+    let f = not-false (p .result) (d .before .before .if1 .left) in
+    let same = none (a .s .now) (a .address) (a .symbols .now) (omega (arith, room (a .s .now) (a .address) (a .symbols .now) (p .ensures) f)) in
+    done (a .s .now) (a .address) (a .symbols .now) (p .ensures) f (q .ensures) (not-false (q .result) (d .if2 .left)) same
+
+pub edit-spec : {M : Type 1} → statement M
+edit-spec =
+    tie.close
+    (tie.spec
+    addressed-requires
+    same-length
+    returns
+    all-characters-requires
+    same-length-2
+    returns-2
+    sub-lay
+    part-lay-start
+    part-lay-end
+    lay-requires
+    same-length-3
+    returns-3
+    same-length-4
+    returns-4)

@@ -1,0 +1,77 @@
+-- `content::strip::shown_at` meets its contract. Each arm knows the spot, and gives what the rule has for it.
+use borrow.Author.Needs.{needs}
+use Rattle.content.proofs.strip.shown_at.Statement.{statement}
+use Rattle.content.proofs.strip.shown_at.Tie as tie
+
+enum-told : tie.Need-enum-told
+enum-told c = search needs
+
+enum-told-2 : tie.Need-enum-told-2
+enum-told-2 c = search needs
+
+enum-told-3 : tie.Need-enum-told-3
+enum-told-3 c = search needs
+
+enum-known-spot : tie.Need-enum-known-spot
+enum-known-spot c = search needs
+
+shown-inside-requires : tie.Need-shown-inside-requires
+shown-inside-requires c κs = search needs
+
+enum-told-4 : tie.Need-enum-told-4
+enum-told-4 c = search needs
+
+enum-told-5 : tie.Need-enum-told-5
+enum-told-5 c = search needs
+
+enum-told-6 : tie.Need-enum-told-6
+enum-told-6 c = search needs
+
+enum-told-7 : tie.Need-enum-told-7
+enum-told-7 c = search needs
+
+returns : tie.Need-returns
+returns c = rw (c .enum-told .given .1)
+
+returns-2 : tie.Need-returns-2
+returns-2 c = rw (c .enum-told2 .given .1)
+
+returns-3 : tie.Need-returns-3
+returns-3 c = rw (c .enum-told3 .given .1)
+
+returns-4 : tie.Need-returns-4
+returns-4 c = rw (c .before .before .spot .given .1) (c .shown-inside .ensures)
+
+returns-5 : tie.Need-returns-5
+returns-5 c = rw (c .enum-told4 .given .1)
+
+returns-6 : tie.Need-returns-6
+returns-6 c = rw (c .enum-told5 .given .1)
+
+returns-7 : tie.Need-returns-7
+returns-7 c = search needs
+
+returns-8 : tie.Need-returns-8
+returns-8 c = search needs
+
+pub shown-at-spec : {M : Type 1} → statement M
+shown-at-spec =
+    tie.close
+    (tie.spec
+    enum-told
+    enum-told-2
+    enum-told-3
+    enum-known-spot
+    shown-inside-requires
+    enum-told-4
+    enum-told-5
+    enum-told-6
+    enum-told-7
+    returns
+    returns-2
+    returns-3
+    returns-4
+    returns-5
+    returns-6
+    returns-7
+    returns-8)

@@ -1,0 +1,188 @@
+-- `content::test::read` meets its contract. All three loops keep that what is left of the bytes gives the verdict: the outer two at the
+-- expansion of a block, the inner one at an item. Each step of the code is a law of `Walk`, and at each break the law says that the byte
+-- there can't stand there. The measure is what is left of the length.
+use Prim.Native.Nat.{_≤_, _-_}
+use native.Mathlib.Omega.{arith}
+use borrow.Author.Needs.{needs}
+use lib.ListN.{length}
+use Rattle.content.specs.declared.machine.Mode.the-variants.{Reading}
+use Rattle.content.specs.declared.machine.Spot.the-variants.{Expansion, Inside}
+use Rattle.content.proofs.Walk.{At, Closed, first-line, no-line, expansion, no-expansion, font, no-font, next-item, no-item, closed, next-block, ends, no-end, at-line, next-line, fifth-line}
+use Rattle.content.proofs.test.read.Statement.{statement}
+use Rattle.content.proofs.test.read.Tie as tie
+
+abbrev Inv-block : tie.InvT-block
+Inv-block s at₀ seen₀ place₀ at seen place = (at₀ ≤ at) × At s (Reading (Inside place) seen) at
+
+abbrev μ-block : tie.MeasureT-block
+μ-block s at₀ seen₀ place₀ at seen place = length s - at
+
+abbrev Inv-line : tie.InvT-line
+Inv-line s at₀ seen₀ at seen = (at₀ ≤ at) × At s (Reading Expansion seen) at
+
+abbrev μ-line : tie.MeasureT-line
+μ-line s at₀ seen₀ at seen = length s - at
+
+abbrev Inv-content : tie.InvT-content
+Inv-content s at₀ seen₀ at seen = At s (Reading Expansion seen) at
+
+abbrev μ-content : tie.MeasureT-content
+μ-content s at₀ seen₀ at seen = length s - at
+
+-- The items loop is left at what ends the block.
+at-close : (c : tie.After-enum-told Inv-block μ-block Inv-line μ-line Inv-content μ-content) → Closed (c .before .before .before .before .before .before .before .before .before .before .before .before .before .before .before .args .s .now) (c .before .before .before .block .at) (c .before .before .before .block .seen)
+at-close c = closed (c .before .before .before .block .inv .1) (c .before .before .token-at .ensures) (c .enum-told .given .1)
+
+byte-at-requires :
+    tie.Need-byte-at-requires Inv-block μ-block Inv-line μ-line Inv-content μ-content
+byte-at-requires c κs = search needs
+
+returns : tie.Need-returns Inv-block μ-block Inv-line μ-line Inv-content μ-content
+returns c = record { answer = no-line (c .before .before .before .args .s .now) (c .before .byte-at .ensures) (c .if1 .taken) }
+
+content-holds : tie.Need-content-holds Inv-block μ-block Inv-line μ-line Inv-content μ-content
+content-holds c = first-line (c .before .before .before .args .s .now) (c .before .byte-at .ensures) (c .if1 .left)
+
+line-holds : tie.Need-line-holds Inv-block μ-block Inv-line μ-line Inv-content μ-content
+line-holds c = (omega arith, c .content .inv)
+
+byte-at-requires-2 :
+    tie.Need-byte-at-requires-2 Inv-block μ-block Inv-line μ-line Inv-content μ-content
+byte-at-requires-2 c κs = search needs
+
+is-expansion-requires :
+    tie.Need-is-expansion-requires Inv-block μ-block Inv-line μ-line Inv-content μ-content
+is-expansion-requires c κs = search needs
+
+add-at : tie.Need-add-at Inv-block μ-block Inv-line μ-line Inv-content μ-content
+add-at c = omega arith
+
+byte-at-requires-3 :
+    tie.Need-byte-at-requires-3 Inv-block μ-block Inv-line μ-line Inv-content μ-content
+byte-at-requires-3 c κs = search needs
+
+is-count-requires :
+    tie.Need-is-count-requires Inv-block μ-block Inv-line μ-line Inv-content μ-content
+is-count-requires c κs = search needs
+
+add-at-2 : tie.Need-add-at-2 Inv-block μ-block Inv-line μ-line Inv-content μ-content
+add-at-2 c = omega arith
+
+block-holds : tie.Need-block-holds Inv-block μ-block Inv-line μ-line Inv-content μ-content
+block-holds c = (omega arith, font (expansion (c .before .before .before .before .before .before .line .inv .1) (c .before .before .before .before .before .byte-at2 .ensures) (c .before .before .before .before .is-expansion .ensures) (c .before .before .before .if2 .left)) (c .before .before .byte-at3 .ensures) (c .before .is-count .ensures) (c .if3 .left))
+
+token-at-requires :
+    tie.Need-token-at-requires Inv-block μ-block Inv-line μ-line Inv-content μ-content
+token-at-requires c κs = search needs
+
+enum-known-found :
+    tie.Need-enum-known-found Inv-block μ-block Inv-line μ-line Inv-content μ-content
+enum-known-found c = search needs
+
+block-less : tie.Need-block-less Inv-block μ-block Inv-line μ-line Inv-content μ-content
+block-less c = let g = next-item (c .before .before .before .before .block .inv .1) (c .before .before .before .token-at .ensures) (c .before .found .given .1) in omega arith
+
+block-again : tie.Need-block-again Inv-block μ-block Inv-line μ-line Inv-content μ-content
+block-again c = let g = next-item (c .before .before .before .before .block .inv .1) (c .before .before .before .token-at .ensures) (c .before .found .given .1) in (omega arith, g .1)
+
+enum-told : tie.Need-enum-told Inv-block μ-block Inv-line μ-line Inv-content μ-content
+enum-told c = search needs
+
+enum-known-found-2 :
+    tie.Need-enum-known-found-2 Inv-block μ-block Inv-line μ-line Inv-content μ-content
+enum-known-found-2 c = search needs
+
+byte-at-requires-4 :
+    tie.Need-byte-at-requires-4 Inv-block μ-block Inv-line μ-line Inv-content μ-content
+byte-at-requires-4 c κs = search needs
+
+is-expansion-requires-2 :
+    tie.Need-is-expansion-requires-2 Inv-block μ-block Inv-line μ-line Inv-content μ-content
+is-expansion-requires-2 c κs = search needs
+
+line-less : tie.Need-line-less Inv-block μ-block Inv-line μ-line Inv-content μ-content
+line-less c = omega arith
+
+line-again : tie.Need-line-again Inv-block μ-block Inv-line μ-line Inv-content μ-content
+line-again c = (omega arith, next-block (at-close (c .before .before .before)) (c .before .before .byte-at4 .ensures) (c .before .is-expansion2 .ensures) (c .if4 .left))
+
+byte-at-requires-5 :
+    tie.Need-byte-at-requires-5 Inv-block μ-block Inv-line μ-line Inv-content μ-content
+byte-at-requires-5 c κs = search needs
+
+add-at-3 : tie.Need-add-at-3 Inv-block μ-block Inv-line μ-line Inv-content μ-content
+add-at-3 c = omega arith
+
+returns-2 : tie.Need-returns-2 Inv-block μ-block Inv-line μ-line Inv-content μ-content
+returns-2 c = record { answer = ends (at-close (c .before .before .before .before .before .before)) (c .before .before .byte-at5 .ensures) (c .before .if5 .taken) (c .if6 .taken) }
+
+add-seen : tie.Need-add-seen Inv-block μ-block Inv-line μ-line Inv-content μ-content
+add-seen c = omega arith
+
+add-at-4 : tie.Need-add-at-4 Inv-block μ-block Inv-line μ-line Inv-content μ-content
+add-at-4 c = omega arith
+
+content-less : tie.Need-content-less Inv-block μ-block Inv-line μ-line Inv-content μ-content
+content-less c = omega arith
+
+content-again : tie.Need-content-again Inv-block μ-block Inv-line μ-line Inv-content μ-content
+content-again c = next-line (at-close (c .before .before .before .before .before .before)) (at-line (at-close (c .before .before .before .before .before .before)) (c .before .before .before .before .before .byte-at4 .ensures) (c .before .before .before .before .is-expansion2 .ensures) (c .before .before .before .if4 .taken) (c .before .before .byte-at5 .ensures) (c .before .if5 .left)) (c .if7 .left)
+
+returns-3 : tie.Need-returns-3 Inv-block μ-block Inv-line μ-line Inv-content μ-content
+returns-3 c = record { answer = no-expansion (c .before .before .before .line .inv .1) (c .before .before .byte-at2 .ensures) (c .before .is-expansion .ensures) (c .if2 .taken) }
+
+returns-4 : tie.Need-returns-4 Inv-block μ-block Inv-line μ-line Inv-content μ-content
+returns-4 c = record { answer = no-font (expansion (c .before .before .before .before .before .before .line .inv .1) (c .before .before .before .before .before .byte-at2 .ensures) (c .before .before .before .before .is-expansion .ensures) (c .before .before .before .if2 .left)) (c .before .before .byte-at3 .ensures) (c .before .is-count .ensures) (c .if3 .taken) }
+
+returns-5 : tie.Need-returns-5 Inv-block μ-block Inv-line μ-line Inv-content μ-content
+returns-5 c = record { answer = no-item (c .before .before .before .before .block .inv .1) (c .before .before .before .token-at .ensures) (c .before .found2 .given .1) }
+
+returns-6 : tie.Need-returns-6 Inv-block μ-block Inv-line μ-line Inv-content μ-content
+returns-6 c = record { answer = no-end (at-close (c .before .before .before .before .before .before)) (c .before .before .byte-at5 .ensures) (c .before .if5 .taken) (c .if6 .left) }
+
+returns-7 : tie.Need-returns-7 Inv-block μ-block Inv-line μ-line Inv-content μ-content
+returns-7 c = record { answer = fifth-line (at-close (c .before .before .before .before .before .before)) (at-line (at-close (c .before .before .before .before .before .before)) (c .before .before .before .before .before .byte-at4 .ensures) (c .before .before .before .before .is-expansion2 .ensures) (c .before .before .before .if4 .taken) (c .before .before .byte-at5 .ensures) (c .before .if5 .left)) (c .if7 .taken) }
+
+pub read-spec : {M : Type 1} → statement M
+read-spec =
+    tie.close
+    (tie.spec
+    Inv-block
+    μ-block
+    Inv-line
+    μ-line
+    Inv-content
+    μ-content
+    byte-at-requires
+    returns
+    content-holds
+    line-holds
+    byte-at-requires-2
+    is-expansion-requires
+    add-at
+    byte-at-requires-3
+    is-count-requires
+    add-at-2
+    block-holds
+    token-at-requires
+    enum-known-found
+    block-less
+    block-again
+    enum-told
+    enum-known-found-2
+    byte-at-requires-4
+    is-expansion-requires-2
+    line-less
+    line-again
+    byte-at-requires-5
+    add-at-3
+    returns-2
+    add-seen
+    add-at-4
+    content-less
+    content-again
+    returns-3
+    returns-4
+    returns-5
+    returns-6
+    returns-7)

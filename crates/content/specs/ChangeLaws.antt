@@ -1,0 +1,111 @@
+-- What is true of changes: edits and updates put characters at character positions, and leave everything else as it was.
+use Prim.Native.Nat.{ℕ, _+_, _-_, _≤_, _<_}
+use mathlib.Core.Bool.{true, false}
+use mathlib.Core.List.{List, [], _∷_, _++_}
+use mathlib.Core.Path.{_≡_}
+use lib.ListN.{length, getD, take, replicate}
+use Rattle.frame.specs.Ground.{pick}
+use Rattle.content.specs.Byte.{is-character, all-characters}
+use Rattle.content.specs.Machine.{start, step}
+use Rattle.content.specs.Content.{verdict, is-content}
+use Rattle.content.specs.Position.{marks, mark-of, is-position, is-field-position, field-positions}
+use Rattle.content.specs.Edit.{edited, replaced}
+use Rattle.content.specs.Update.{laid}
+use Rattle.content.specs.Grammar.{outline}
+use Rattle.content.specs.Tree.{tree-of}
+use Rattle.content.specs.declared.machine.Mode.{Mode}
+use Rattle.content.specs.declared.position.Mark.the-variants.{Structure}
+use Rattle.content.specs.declared.edit.Edited.the-variants.{Done}
+
+-- Two lists of bytes that differ only where the first has character positions, and there the second has characters.
+pub data Changed : Mode → List ℕ → List ℕ → Type 0 where
+  none : {m : Mode} → Changed m [] []
+  kept : {m : Mode} {b : ℕ} {s t : List ℕ} → Changed (step m b) s t → Changed m (b ∷ s) (b ∷ t)
+  changed : {m : Mode} {b c : ℕ} {s t : List ℕ} → is-position (mark-of m b) ≡ true → is-character c ≡ true → Changed (step m b) s t → Changed m (b ∷ s) (c ∷ t)
+
+-- What such a change leaves as it was.
+pub record Kept (s t : List ℕ) : Type 0 where
+  pub length-kept : length t ≡ length s
+  pub verdict-kept : verdict t ≡ verdict s
+  pub marks-kept : marks start t ≡ marks start s
+  pub field-positions-kept : field-positions t ≡ field-positions s
+  pub outline-kept : outline (tree-of t) ≡ outline (tree-of s)
+
+abbrev pub ChangeKeeps : Type 0
+ChangeKeeps = (s t : List ℕ) → Changed start s t → Kept s t
+
+-- An accepted edit is such a change.
+abbrev pub EditChanges : Type 0
+EditChanges =
+    (s : List ℕ) (address : ℕ) (symbols : List ℕ) →
+    edited s address symbols ≡ Done →
+    Changed start s (replaced s address symbols)
+
+abbrev pub EditKeepsLength : Type 0
+EditKeepsLength =
+    (s : List ℕ) (address : ℕ) (symbols : List ℕ) →
+    edited s address symbols ≡ Done →
+    length (replaced s address symbols) ≡ length s
+
+-- So a content stays a content.
+abbrev pub EditStaysContent : Type 0
+EditStaysContent =
+    (s : List ℕ) (address : ℕ) (symbols : List ℕ) →
+    is-content s ≡ true →
+    edited s address symbols ≡ Done →
+    (is-content (replaced s address symbols) ≡ true) × Kept s (replaced s address symbols)
+
+-- 01, What an accepted frame does: "42h replaces bytes from the address on": each symbol lands where it is addressed to.
+abbrev pub EditLands : Type 0
+EditLands =
+    (s : List ℕ) (address : ℕ) (symbols : List ℕ) (k : ℕ) →
+    edited s address symbols ≡ Done →
+    k < length symbols →
+    getD (replaced s address symbols) (address + k) 0 ≡ getD symbols k 0
+
+-- The bytes before and behind those stay.
+abbrev pub EditElsewhere : Type 0
+EditElsewhere =
+    (s : List ℕ) (address : ℕ) (symbols : List ℕ) (i : ℕ) →
+    edited s address symbols ≡ Done →
+    (i < address → getD (replaced s address symbols) i 0 ≡ getD s i 0)
+    × (address + length symbols ≤ i → getD (replaced s address symbols) i 0 ≡ getD s i 0)
+
+-- An update is such a change too.
+abbrev pub UpdateChanges : Type 0
+UpdateChanges = (s text : List ℕ) → all-characters text ≡ true → Changed start s (laid text start s)
+
+-- Its length stays whatever the text is.
+abbrev pub UpdateKeepsLength : Type 0
+UpdateKeepsLength = (s text : List ℕ) → length (laid text start s) ≡ length s
+
+abbrev pub UpdateStaysContent : Type 0
+UpdateStaysContent =
+    (s text : List ℕ) →
+    is-content s ≡ true →
+    all-characters text ≡ true →
+    (is-content (laid text start s) ≡ true) × Kept s (laid text start s)
+
+-- The bytes at the field positions, in order.
+abbrev pub at-fields : Mode → List ℕ → List ℕ
+at-fields m [] = []
+at-fields m (b ∷ s) = pick (is-field-position (mark-of m b)) (b ∷ at-fields (step m b) s) (at-fields (step m b) s)
+
+-- A text cut to n characters, and filled with spaces to n.
+abbrev pub fitted : ℕ → List ℕ → List ℕ
+fitted n text = take n text ++ replicate (n - length text) 0x20
+
+-- 01, What an accepted frame does: "An update lays its characters over the character positions of external fields [..], fields in
+-- order [..]. Positions left over become spaces, characters left over are dropped."
+abbrev pub UpdateLands : Type 0
+UpdateLands =
+    (s text : List ℕ) →
+    all-characters text ≡ true →
+    at-fields start (laid text start s) ≡ fitted (field-positions s) text
+
+-- Every other byte stays.
+abbrev pub UpdateElsewhere : Type 0
+UpdateElsewhere =
+    (s text : List ℕ) (i : ℕ) →
+    is-field-position (getD (marks start s) i Structure) ≡ false →
+    getD (laid text start s) i 0 ≡ getD s i 0

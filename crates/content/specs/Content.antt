@@ -1,0 +1,54 @@
+-- What a content is: the machine's verdict on its bytes, and the 512.
+use Prim.Native.Nat.{ℕ, _+_}
+use mathlib.Core.Bool.{Bool, true, false}
+use mathlib.Core.List.{List, [], _∷_}
+use mathlib.Core.Path.{_≡_}
+use lib.Dec.{leb}
+use lib.ListN.{length}
+use Rattle.frame.specs.Ground.{pick, both}
+use Rattle.content.specs.Machine.{start, step}
+use Rattle.content.specs.declared.machine.Mode.{Mode}
+use Rattle.content.specs.declared.machine.Mode.the-variants.{Reading, Done, Bad}
+use Rattle.content.specs.declared.test.Verdict.{Verdict}
+use Rattle.content.specs.declared.test.Verdict.the-variants.{Good, Unfit}
+
+-- The verdict where the bytes end at place i: they merely stop early unless the 0Dh was read.
+abbrev pub ended : ℕ → Mode → Verdict
+ended i (Reading spot seen) = Unfit i
+ended i Done = Good
+ended i Bad = Unfit i
+
+-- The verdict where the byte at place i led to a mode, and v is what the bytes behind it come to.
+abbrev pub onward : ℕ → Mode → Verdict → Verdict
+onward i (Reading spot seen) v = v
+onward i Done v = v
+onward i Bad v = Unfit i
+
+-- 01, What a content is: "Reading stops at the first byte that can't stand there." From place i and a mode on: `Good`, or the
+-- place of that byte, or the count of the bytes where they merely stop early.
+abbrev pub read : ℕ → Mode → List ℕ → Verdict
+read i m [] = ended i m
+read i m (b ∷ s) = onward i (step m b) (read (i + 1) (step m b) s)
+
+unfoldable pub verdict : List ℕ → Verdict
+verdict s = read 0 start s
+
+abbrev pub is-good : Verdict → Bool
+is-good Good = true
+is-good (Unfit i) = false
+
+-- 01, What a content is: "One to four lines, then 0Dh, and no byte after it; 512 bytes at most."
+unfoldable pub is-content : List ℕ → Bool
+is-content s = both (leb (length s) 512) (is-good (verdict s))
+
+-- 01, Other calls: "test a content (0 or 10), for our approval screen".
+unfoldable pub tested : List ℕ → ℕ
+tested s = pick (is-content s) 0 10
+
+-- The contract of `read`.
+pub record Reads (s : List ℕ) (r : Verdict) : Type 0 where
+  pub answer : r ≡ verdict s
+
+-- The contract of `test`.
+pub record Tests (s : List ℕ) (r : ℕ) : Type 0 where
+  pub answer : r ≡ tested s

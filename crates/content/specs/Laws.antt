@@ -1,0 +1,49 @@
+-- What is true of the contents as a language: they are the writings of the good trees, each of just one, and characters are never read
+-- as structure.
+use Prim.Native.Nat.{ℕ}
+use mathlib.Core.Bool.{true}
+use mathlib.Core.List.{List}
+use mathlib.Core.Path.{_≡_}
+use Rattle.content.specs.Byte.{is-character}
+use Rattle.content.specs.Machine.{step}
+use Rattle.content.specs.Content.{verdict}
+use Rattle.content.specs.Position.{mark-of, is-position}
+use Rattle.content.specs.Grammar.{Tree, encode, good-tree}
+use Rattle.content.specs.Tree.{tree-of}
+use Rattle.content.specs.declared.machine.Mode.{Mode}
+use Rattle.content.specs.declared.test.Verdict.the-variants.{Good}
+
+-- Correct: what is read as good is a good tree, written out.
+abbrev pub Correct : Type 0
+Correct = (s : List ℕ) → verdict s ≡ Good → (good-tree (tree-of s) ≡ true) × (encode (tree-of s) ≡ s)
+
+-- Complete: every good tree, written out, is read as good.
+abbrev pub Complete : Type 0
+Complete = (t : Tree) → good-tree t ≡ true → verdict (encode t) ≡ Good
+
+-- Unambiguous: no two good trees are written alike.
+abbrev pub Unambiguous : Type 0
+Unambiguous = (t u : Tree) → good-tree t ≡ true → good-tree u ≡ true → encode t ≡ encode u → t ≡ u
+
+-- So what is read as good is the writing of one good tree, and of no other.
+abbrev pub ExactlyOneTree : Type 0
+ExactlyOneTree =
+    (s : List ℕ) →
+    verdict s ≡ Good →
+    (t : Tree)
+    × (good-tree t ≡ true)
+    × (encode t ≡ s)
+    × ((u : Tree) → good-tree u ≡ true → encode u ≡ s → u ≡ t)
+
+-- Reading undoes writing.
+abbrev pub ReadBack : Type 0
+ReadBack = (t : Tree) → good-tree t ≡ true → tree-of (encode t) ≡ t
+
+-- No byte that is a character can be read as structure at a character position, whatever stands around it: each leads the machine where
+-- the one that stands there leads it, and bears the same mark.
+abbrev pub CharactersAreNoStructure : Type 0
+CharactersAreNoStructure =
+    (m : Mode) (b c : ℕ) →
+    is-position (mark-of m b) ≡ true →
+    is-character c ≡ true →
+    (step m c ≡ step m b) × (mark-of m c ≡ mark-of m b)

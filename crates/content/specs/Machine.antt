@@ -1,0 +1,83 @@
+-- The machine that reads a content a byte at a time. Everything the box does with a content comes from its step.
+use Prim.Native.Nat.{ℕ, _+_}
+use lib.Dec.{eqb, ltb}
+use Rattle.frame.specs.Ground.{pick}
+use Rattle.content.specs.Byte.{kind-of, code-of, is-expansion, is-count}
+use Rattle.content.specs.declared.byte.Kind.{Kind}
+use Rattle.content.specs.declared.byte.Kind.the-variants as kind
+use Rattle.content.specs.declared.byte.Coded.{Coded}
+use Rattle.content.specs.declared.byte.Coded.the-variants as coded
+use Rattle.content.specs.declared.machine.Place.{Place}
+use Rattle.content.specs.declared.machine.Place.the-variants.{Block, Field, Date}
+use Rattle.content.specs.declared.machine.Seen.{Seen}
+use Rattle.content.specs.declared.machine.Spot.{Spot}
+use Rattle.content.specs.declared.machine.Spot.the-variants.{Line, Expansion, Font, Inside, TabulationCount, TabulationEnd, CounterNumber, CounterEnd}
+use Rattle.content.specs.declared.machine.Mode.{Mode}
+use Rattle.content.specs.declared.machine.Mode.the-variants.{Reading, Done, Bad}
+
+-- Nothing is seen yet, and a line must begin.
+abbrev pub start : Mode
+start = Reading Line (record { lines = 0; fields = 0 })
+
+-- 01, What a content is: "One to four lines"; "A line is 0Ah and one or more blocks."
+unfoldable pub with-line : Seen → Mode
+with-line seen = pick (ltb (seen .lines) 4) (Reading Expansion (record { lines = seen .lines + 1; fields = seen .fields })) Bad
+
+-- 01, What a content is: "an external field: [..] at most 10 in a content".
+unfoldable pub with-field : Seen → Mode
+with-field seen = pick (ltb (seen .fields) 10) (Reading (Inside Field) (record { lines = seen .lines; fields = seen .fields + 1 })) Bad
+
+-- 01, What a content is: "A block is an expansion (01h to 09h), a font byte (01h to FFh) and zero or more items." Behind an item
+-- stands another item, the next block, the next line, or the 0Dh.
+abbrev pub in-block : Kind → Seen → Mode
+in-block kind.Line seen = with-line seen
+in-block kind.End seen = Done
+in-block kind.Field seen = with-field seen
+in-block kind.Date seen = Reading (Inside Date) seen
+in-block kind.Counter seen = Reading CounterNumber seen
+in-block kind.Tabulation seen = Reading TabulationCount seen
+in-block kind.Expansion seen = Reading Font seen
+in-block kind.Character seen = Reading (Inside Block) seen
+in-block kind.Other seen = Bad
+
+-- 01, What a content is: "an external field: 12h, zero or more characters, 12h".
+abbrev pub in-field : Kind → Seen → Mode
+in-field kind.Line seen = Bad
+in-field kind.End seen = Bad
+in-field kind.Field seen = Reading (Inside Block) seen
+in-field kind.Date seen = Bad
+in-field kind.Counter seen = Bad
+in-field kind.Tabulation seen = Bad
+in-field kind.Expansion seen = Bad
+in-field kind.Character seen = Reading (Inside Field) seen
+in-field kind.Other seen = Bad
+
+-- 01, What a content is: "a date item: 1Bh, zero or more codes, 1Bh".
+abbrev pub in-code : Coded → Seen → Mode
+in-code (coded.Code c) seen = Reading (Inside Date) seen
+in-code coded.Not seen = Bad
+
+abbrev pub in-date : ℕ → Seen → Mode
+in-date b seen = pick (eqb b 0x1B) (Reading (Inside Block) seen) (in-code (code-of b) seen)
+
+abbrev pub inside : Place → ℕ → Seen → Mode
+inside Block b seen = in-block (kind-of b) seen
+inside Field b seen = in-field (kind-of b) seen
+inside Date b seen = in-date b seen
+
+-- 01, What a content is: "a tabulation: 1Eh, n (1 to 255), 1Eh"; "a counter: 1Ch, 01h, 1Ch".
+abbrev pub stepped : Spot → ℕ → Seen → Mode
+stepped Line b seen = pick (eqb b 0x0A) (with-line seen) Bad
+stepped Expansion b seen = pick (is-expansion b) (Reading Font seen) Bad
+stepped Font b seen = pick (is-count b) (Reading (Inside Block) seen) Bad
+stepped (Inside place) b seen = inside place b seen
+stepped TabulationCount b seen = pick (is-count b) (Reading TabulationEnd seen) Bad
+stepped TabulationEnd b seen = pick (eqb b 0x1E) (Reading (Inside Block) seen) Bad
+stepped CounterNumber b seen = pick (eqb b 0x01) (Reading CounterEnd seen) Bad
+stepped CounterEnd b seen = pick (eqb b 0x1C) (Reading (Inside Block) seen) Bad
+
+-- 01, What a content is: "then 0Dh, and no byte after it".
+abbrev pub step : Mode → ℕ → Mode
+step (Reading spot seen) b = stepped spot b seen
+step Done b = Bad
+step Bad b = Bad

@@ -1,0 +1,152 @@
+// What a single byte may be: a kind of its own, or a code of a date item.
+ghost use mathlib.Core.Path.{_≡_};
+ghost use lib.ListN.{getD};
+ghost use Rattle.content.specs.Byte.{all-characters, code-of, is-character, is-count, is-expansion, kind-of};
+ghost use Rattle.frame.specs.Ground.{within};
+
+// What a byte can be at the place of an item.
+pub enum Kind {
+    Line,
+    End,
+    Field,
+    Date,
+    Counter,
+    Tabulation,
+    Expansion,
+    Character,
+    Other,
+}
+
+// A code of a date item: a character of an entry, 0 to 2, or a sign of its own.
+pub enum Code {
+    Hour(u8),
+    Minute(u8),
+    Month(u8),
+    Day(u8),
+    Colon,
+    Slash,
+    Dot,
+    Space,
+}
+
+// What a byte is as a code.
+pub enum Coded {
+    Code(Code),
+    Not,
+}
+
+// A byte from the first to the second.
+pub fn within(least: u8, most: u8, b: u8) -> bool
+    ensures { λ r. ⌜ r ≡ within least most b ⌝ }
+{
+    if b < least {
+        return false;
+    }
+    b <= most
+}
+
+// A character, 20h to 7Eh.
+pub fn is_character(b: u8) -> bool
+    ensures { λ r. ⌜ r ≡ is-character b ⌝ }
+{
+    within(0x20, 0x7E, b)
+}
+
+// An expansion, 01h to 09h.
+pub fn is_expansion(b: u8) -> bool
+    ensures { λ r. ⌜ r ≡ is-expansion b ⌝ }
+{
+    within(0x01, 0x09, b)
+}
+
+// A font byte or the n of a tabulation, 1 to 255.
+pub fn is_count(b: u8) -> bool
+    ensures { λ r. ⌜ r ≡ is-count b ⌝ }
+{
+    within(1, 255, b)
+}
+
+// Whether all bytes are characters.
+pub fn all_characters(s: &[u8]) -> bool
+    ensures { λ r. ⌜ r ≡ all-characters (now (s .entry)) ⌝ }
+{
+    let mut i = 0;
+    while i < s.len() {
+        if !is_character(s[i]) {
+            return false;
+        }
+        i += 1;
+    }
+    true
+}
+
+pub fn kind_of(b: u8) -> Kind
+    ensures { λ r. ⌜ r ≡ kind-of b ⌝ }
+{
+    if b == 0x0A {
+        return Kind::Line;
+    }
+    if b == 0x0D {
+        return Kind::End;
+    }
+    if b == 0x12 {
+        return Kind::Field;
+    }
+    if b == 0x1B {
+        return Kind::Date;
+    }
+    if b == 0x1C {
+        return Kind::Counter;
+    }
+    if b == 0x1E {
+        return Kind::Tabulation;
+    }
+    if is_expansion(b) {
+        return Kind::Expansion;
+    }
+    if is_character(b) {
+        return Kind::Character;
+    }
+    Kind::Other
+}
+
+// The code that a byte is in a date item.
+pub fn code_of(b: u8) -> Coded
+    ensures { λ r. ⌜ r ≡ code-of b ⌝ }
+{
+    if within(0x55, 0x57, b) {
+        return Coded::Code(Code::Hour(b - 0x55));
+    }
+    if within(0x58, 0x5A, b) {
+        return Coded::Code(Code::Minute(b - 0x58));
+    }
+    if within(0x5B, 0x5D, b) {
+        return Coded::Code(Code::Month(b - 0x5B));
+    }
+    if within(0x61, 0x63, b) {
+        return Coded::Code(Code::Day(b - 0x61));
+    }
+    if b == 0x70 {
+        return Coded::Code(Code::Colon);
+    }
+    if b == 0x71 {
+        return Coded::Code(Code::Slash);
+    }
+    if b == 0x72 {
+        return Coded::Code(Code::Dot);
+    }
+    if b == 0x73 {
+        return Coded::Code(Code::Space);
+    }
+    Coded::Not
+}
+
+// The byte at a place, and 0, which stands nowhere in a content, behind the end.
+pub fn byte_at(s: &[u8], at: usize) -> u8
+    ensures { λ r. ⌜ r ≡ getD (now (s .entry)) at 0 ⌝ }
+{
+    if at < s.len() {
+        return s[at];
+    }
+    0
+}

@@ -1,0 +1,109 @@
+// The content test: nested loops over lines, blocks and items, left at the first byte that can't stand there.
+use crate::byte::byte_at;
+use crate::byte::is_count;
+use crate::byte::is_expansion;
+use crate::item::Token;
+use crate::item::token_at;
+use crate::machine::Place;
+use crate::machine::Seen;
+ghost use mathlib.Core.Path.{_≡_};
+ghost use Rattle.content.specs.Content.{Reads, Tests, is-content};
+
+pub enum Verdict {
+    Good,
+    // The place of the first byte that can't stand there, or the count of the bytes where they merely stop early.
+    Unfit(usize),
+}
+
+// The verdict on any bytes.
+pub fn read(s: &[u8]) -> Verdict
+    ensures { λ r. ⌜ Reads (now (s .entry)) r ⌝ }
+{
+    if byte_at(s, 0) != 0x0A {
+        return Verdict::Unfit(0);
+    }
+    let mut at = 1;
+    let mut seen = Seen {
+        lines: 1,
+        fields: 0,
+    };
+    'content: loop {
+        // Behind a line's 0Ah.
+        'line: loop {
+            // At the expansion of a block.
+            if !is_expansion(byte_at(s, at)) {
+                break 'content;
+            }
+            at += 1;
+            if !is_count(byte_at(s, at)) {
+                break 'content;
+            }
+            at += 1;
+            let mut place = Place::Block;
+            'block: loop {
+                let found = token_at(s, at, place, seen);
+                match found {
+                    Token::Read {
+                        item: _,
+                        next,
+                        place: inside,
+                        seen: counts,
+                    } => {
+                        at = next;
+                        place = inside;
+                        seen = counts;
+                    }
+                    Token::Ends => {
+                        break 'block;
+                    }
+                    Token::Unfit(i) => {
+                        at = i;
+                        break 'content;
+                    }
+                }
+            }
+            if !is_expansion(byte_at(s, at)) {
+                break 'line;
+            }
+        }
+        // At the 0Ah or the 0Dh behind a line.
+        if byte_at(s, at) == 0x0D {
+            at += 1;
+            if at == s.len() {
+                return Verdict::Good;
+            }
+            break 'content;
+        }
+        let lines = seen.lines;
+        if 4 <= lines {
+            break 'content;
+        }
+        seen.lines = lines + 1;
+        at += 1;
+    }
+    Verdict::Unfit(at)
+}
+
+// Whether the bytes are a content.
+pub fn is_content(s: &[u8]) -> bool
+    ensures { λ r. ⌜ r ≡ is-content (now (s .entry)) ⌝ }
+{
+    if 512 < s.len() {
+        return false;
+    }
+    let verdict = read(s);
+    match verdict {
+        Verdict::Good => true,
+        Verdict::Unfit(_) => false,
+    }
+}
+
+// Document 01's test, for the approval screen: 0, or 10 for what is no content.
+pub fn test(s: &[u8]) -> u8
+    ensures { λ r. ⌜ Tests (now (s .entry)) r ⌝ }
+{
+    if is_content(s) {
+        return 0;
+    }
+    10
+}
