@@ -46,21 +46,21 @@ pub fn within(least: u8, most: u8, b: u8) -> bool
 }
 
 // A character, 20h to 7Eh.
-pub fn is_character(b: u8) -> bool
+pub(crate) fn is_character(b: u8) -> bool
     ensures { λ r. ⌜ r ≡ is-character b ⌝ }
 {
     within(0x20, 0x7E, b)
 }
 
 // An expansion, 01h to 09h.
-pub fn is_expansion(b: u8) -> bool
+pub(crate) fn is_expansion(b: u8) -> bool
     ensures { λ r. ⌜ r ≡ is-expansion b ⌝ }
 {
     within(0x01, 0x09, b)
 }
 
 // A font byte or the n of a tabulation, 1 to 255.
-pub fn is_count(b: u8) -> bool
+pub(crate) fn is_count(b: u8) -> bool
     ensures { λ r. ⌜ r ≡ is-count b ⌝ }
 {
     within(1, 255, b)
@@ -80,7 +80,7 @@ pub fn all_characters(s: &[u8]) -> bool
     true
 }
 
-pub fn kind_of(b: u8) -> Kind
+pub(crate) fn kind_of(b: u8) -> Kind
     ensures { λ r. ⌜ r ≡ kind-of b ⌝ }
 {
     if b == 0x0A {
@@ -111,7 +111,7 @@ pub fn kind_of(b: u8) -> Kind
 }
 
 // The code that a byte is in a date item.
-pub fn code_of(b: u8) -> Coded
+pub(crate) fn code_of(b: u8) -> Coded
     ensures { λ r. ⌜ r ≡ code-of b ⌝ }
 {
     if within(0x55, 0x57, b) {
@@ -142,7 +142,7 @@ pub fn code_of(b: u8) -> Coded
 }
 
 // The byte at a place, and 0, which stands nowhere in a content, behind the end.
-pub fn byte_at(s: &[u8], at: usize) -> u8
+pub(crate) fn byte_at(s: &[u8], at: usize) -> u8
     ensures { λ r. ⌜ r ≡ getD (now (s .entry)) at 0 ⌝ }
 {
     if at < s.len() {

@@ -168,7 +168,7 @@ fn date_token(s: &[u8], at: usize, seen: Seen) -> Token
 }
 
 // What stands at a place, in a block, a field or a date item; behind the end nothing can.
-pub fn token_at(s: &[u8], at: usize, place: Place, seen: Seen) -> Token
+pub(crate) fn token_at(s: &[u8], at: usize, place: Place, seen: Seen) -> Token
     ensures { λ r. ⌜ r ≡ token-at (now (s .entry)) at place seen ⌝ }
 {
     if s.len() <= at {

@@ -42,7 +42,7 @@ pub enum Mode {
 }
 
 // Nothing is seen yet.
-pub fn begin() -> Mode
+pub(crate) fn begin() -> Mode
     ensures { λ r. ⌜ r ≡ start ⌝ }
 {
     Mode::Reading(
@@ -55,7 +55,7 @@ pub fn begin() -> Mode
 }
 
 // A 0Ah begins a line, the fourth at the most.
-pub fn with_line(seen: Seen) -> Mode
+pub(crate) fn with_line(seen: Seen) -> Mode
     ensures { λ r. ⌜ r ≡ with-line seen ⌝ }
 {
     let lines = seen.lines;
@@ -72,7 +72,7 @@ pub fn with_line(seen: Seen) -> Mode
 }
 
 // A 12h opens an external field, the tenth at the most.
-pub fn with_field(seen: Seen) -> Mode
+pub(crate) fn with_field(seen: Seen) -> Mode
     ensures { λ r. ⌜ r ≡ with-field seen ⌝ }
 {
     let fields = seen.fields;
@@ -176,7 +176,7 @@ fn step_reading(spot: Spot, b: u8, seen: Seen) -> Mode
 }
 
 // The mode behind a byte.
-pub fn step(mode: Mode, b: u8) -> Mode
+pub(crate) fn step(mode: Mode, b: u8) -> Mode
     ensures { λ r. ⌜ r ≡ step mode b ⌝ }
 {
     match mode {

@@ -45,7 +45,7 @@ fn mark_in(mode: Mode) -> Mark
 }
 
 // The mark of a byte that is read in a mode.
-pub fn mark_of(mode: Mode, b: u8) -> Mark
+pub(crate) fn mark_of(mode: Mode, b: u8) -> Mark
     ensures { λ r. ⌜ r ≡ mark-of mode b ⌝ }
 {
     if is_character(b) {
@@ -54,7 +54,7 @@ pub fn mark_of(mode: Mode, b: u8) -> Mark
     Mark::Structure
 }
 
-pub fn is_position(mark: Mark) -> bool
+pub(crate) fn is_position(mark: Mark) -> bool
     ensures { λ r. ⌜ r ≡ is-position mark ⌝ }
 {
     match mark {
@@ -64,7 +64,7 @@ pub fn is_position(mark: Mark) -> bool
     }
 }
 
-pub fn is_field_position(mark: Mark) -> bool
+pub(crate) fn is_field_position(mark: Mark) -> bool
     ensures { λ r. ⌜ r ≡ is-field-position mark ⌝ }
 {
     match mark {

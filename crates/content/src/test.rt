@@ -16,7 +16,7 @@ pub enum Verdict {
 }
 
 // The verdict on any bytes.
-pub fn read(s: &[u8]) -> Verdict
+pub(crate) fn read(s: &[u8]) -> Verdict
     ensures { λ r. ⌜ Reads (now (s .entry)) r ⌝ }
 {
     if byte_at(s, 0) != 0x0A {

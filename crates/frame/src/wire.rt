@@ -18,7 +18,7 @@ pub fn word(high: u8, low: u8) -> usize
 }
 
 // The exclusive OR of all bytes.
-pub fn check(s: &[u8]) -> u8
+pub(crate) fn check(s: &[u8]) -> u8
     ensures { λ r. ⌜ r ≡ check (now (s .entry)) ⌝ }
 {
     let mut c: u8 = 0;
@@ -31,7 +31,7 @@ pub fn check(s: &[u8]) -> u8
 }
 
 // The table of document 01, a row for each identifier.
-pub fn size_of(identifier: u8) -> Size
+pub(crate) fn size_of(identifier: u8) -> Size
     ensures { λ r. ⌜ r ≡ size-of identifier ⌝ }
 {
     if identifier == 0x0A {
@@ -65,7 +65,7 @@ pub fn size_of(identifier: u8) -> Size
 }
 
 // Whether the identifier stands in the table.
-pub fn listed(size: Size) -> bool
+pub(crate) fn listed(size: Size) -> bool
     ensures { λ r. ⌜ r ≡ listed size ⌝ }
 {
     match size {
@@ -76,7 +76,7 @@ pub fn listed(size: Size) -> bool
 }
 
 // Whether n data bytes are as the table says.
-pub fn fits(size: Size, n: usize) -> bool
+pub(crate) fn fits(size: Size, n: usize) -> bool
     ensures { λ r. ⌜ r ≡ fits size n ⌝ }
 {
     match size {

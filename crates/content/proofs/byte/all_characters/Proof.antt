@@ -1,13 +1,10 @@
+-- `content::byte::all_characters` meets its contract. The invariant: what is left of the bytes gives the same answer as all of them.
 use Rattle.content.proofs.byte.all_characters.Statement.{statement}
 use Rattle.content.proofs.byte.all_characters.Tie as tie
-use Rattle.content.proofs.byte.all_characters.Reads as reads
-use Rattle.content.proofs.byte.all_characters.Lts as lts
-use Rattle.content.proofs.byte.is_character.Reads as is-character-reads
 use Prim.Native.Nat.{_+_, _≤_, _-_}
-use mathlib.Core.Bool.{Bool, not}
+use mathlib.Core.Bool.{Bool}
 use mathlib.Core.Path.{_≡_, refl, sym, _∙_, ap}
-use mathlib.Core.List.{_∷_}
-use lib.ListN.{length, drop, getD, drop-of-length-le}
+use lib.ListN.{length, drop, drop-of-length-le}
 use borrow.Author.Needs.{needs}
 use borrow.Author.Tests.{not-true, not-false}
 use native.Mathlib.Omega.{arith}
@@ -21,35 +18,27 @@ Inv-loop s i₀ i = (i ≤ length s) × (all-characters s ≡ all-characters (dr
 abbrev μ-loop : tie.MeasureT-loop
 μ-loop s i₀ i = length s - i
 
--- src/byte.rt:74:5
 loop-holds : tie.Need-loop-holds Inv-loop μ-loop
 loop-holds c = (omega arith, refl)
 
--- src/byte.rt:75:26
 shared-slice-read-is-character : tie.Need-shared-slice-read-is-character Inv-loop μ-loop
 shared-slice-read-is-character c = omega arith
 
--- src/byte.rt:75:13
 is-character-requires : tie.Need-is-character-requires Inv-loop μ-loop
 is-character-requires c κs = search needs
 
--- src/byte.rt:76:13
 returns : tie.Need-returns Inv-loop μ-loop
 returns c = sym (c .before .before .before .before .loop .inv .1 ∙ ap all-characters (drop-next (c .before .before .before .before .before .before .args .s .now) (c .before .before .before .before .loop .i) (c .before .before .before .loop-test .taken)) ∙ ap (λ (t : Bool). both t (all-characters (drop (c .before .before .before .before .loop .i + 1) (c .before .before .before .before .before .before .args .s .now)))) (sym (c .before .is-character .ensures) ∙ not-true (c .before .is-character .result) (c .if1 .taken)))
 
--- src/byte.rt:78:9
 add-i : tie.Need-add-i Inv-loop μ-loop
 add-i c = omega arith
 
--- src/byte.rt:74:5
 loop-less : tie.Need-loop-less Inv-loop μ-loop
 loop-less c = omega arith
 
--- src/byte.rt:74:5
 loop-again : tie.Need-loop-again Inv-loop μ-loop
 loop-again c = (omega arith, c .before .before .before .before .loop .inv .1 ∙ ap all-characters (drop-next (c .before .before .before .before .before .before .args .s .now) (c .before .before .before .before .loop .i) (c .before .before .before .loop-test .taken)) ∙ ap (λ (t : Bool). both t (all-characters (drop (c .before .before .before .before .loop .i + 1) (c .before .before .before .before .before .before .args .s .now)))) (sym (c .before .is-character .ensures) ∙ not-false (c .before .is-character .result) (c .if1 .left)))
 
--- src/byte.rt:70:1
 returns-2 : tie.Need-returns-2 Inv-loop μ-loop
 returns-2 c = sym (c .before .loop .inv .1 ∙ ap all-characters (drop-of-length-le (c .before .before .before .args .s .now) (c .loop-test .left)))
 

@@ -1,62 +1,48 @@
+-- `content::byte::kind_of` meets its contract: the tests are those of the rule, in its order.
 use borrow.Author.Needs.{needs}
 use Rattle.content.proofs.byte.kind_of.Statement.{statement}
 use Rattle.content.proofs.byte.kind_of.Tie as tie
-use Rattle.content.proofs.byte.kind_of.Reads as reads
-use Rattle.content.proofs.byte.kind_of.Lts as lts
-use Rattle.content.proofs.byte.is_character.Reads as is-character-reads
-use Rattle.content.proofs.byte.is_expansion.Reads as is-expansion-reads
 use Rattle.frame.proofs.Laws.{tests}
 use Rattle.content.specs.Byte.{kind-of}
 
--- src/byte.rt:87:9
 returns : tie.Need-returns
 unfolding kind-of
 returns c = search tests
 
--- src/byte.rt:90:9
 returns-2 : tie.Need-returns-2
 unfolding kind-of
 returns-2 c = search tests
 
--- src/byte.rt:93:9
 returns-3 : tie.Need-returns-3
 unfolding kind-of
 returns-3 c = search tests
 
--- src/byte.rt:96:9
 returns-4 : tie.Need-returns-4
 unfolding kind-of
 returns-4 c = search tests
 
--- src/byte.rt:99:9
 returns-5 : tie.Need-returns-5
 unfolding kind-of
 returns-5 c = search tests
 
--- src/byte.rt:102:9
 returns-6 : tie.Need-returns-6
 unfolding kind-of
 returns-6 c = search tests
 
--- src/byte.rt:104:8
 is-expansion-requires : tie.Need-is-expansion-requires
 is-expansion-requires c κs = search needs
 
--- src/byte.rt:105:9
 returns-7 : tie.Need-returns-7
 unfolding kind-of
 returns-7 c = rw (← c .before .is-expansion .ensures, c .if7 .taken) (search tests)
 
--- src/byte.rt:107:8
 is-character-requires : tie.Need-is-character-requires
 is-character-requires c κs = search needs
 
--- src/byte.rt:108:9
 returns-8 : tie.Need-returns-8
 unfolding kind-of
 returns-8 c = rw (← c .before .before .before .is-expansion .ensures, c .before .before .if7 .left, ← c .before .is-character .ensures, c .if8 .taken) (search tests)
 
--- src/byte.rt:83:1
 returns-9 : tie.Need-returns-9
 unfolding kind-of
 returns-9 c = rw (← c .before .before .before .is-expansion .ensures, c .before .before .if7 .left, ← c .before .is-character .ensures, c .if8 .left) (search tests)
