@@ -1,12 +1,12 @@
 -- What tests tell: of two of them, of a choice, and of a single byte and its kind, where characters, expansions and codes are no marks.
-use Prim.Native.Nat.{ℕ, _≤_, _<_}
+use Prim.Native.Nat.{ℕ, _<_}
 use mathlib.Core.Bool.{Bool, true, false}
-use mathlib.Core.Path.{_≡_, refl}
+use mathlib.Core.Path.{_≡_, subst}
 use native.Mathlib.Omega.{arith}
-use borrow.Author.Tests.{eqb-true, leb-true, ne-eqb, lt-leb, le-leb}
-use lib.Dec.{eqb, leb}
-use Rattle.frame.specs.Ground.{pick, both, within}
-use Rattle.frame.proofs.Laws.{never, within-true, of-pick}
+use borrow.Author.Tests.{eqb-true, ne-eqb, lt-leb, le-leb}
+use lib.Dec.{eqb}
+use Rattle.frame.specs.Ground.{pick}
+use Rattle.frame.proofs.Laws.{never, within-true, pick-case}
 use Rattle.content.specs.Byte.{is-character, is-expansion, kind-of, code-of}
 use Rattle.content.specs.Grammar.{is-code}
 use Rattle.content.specs.declared.byte.Kind.{Kind}
@@ -37,7 +37,10 @@ kind-means b =
     (has (is-character b) _ _ (λ e. e) tt)))))))
   where
     has : (x : Bool) (k j : Kind) → (x ≡ true → Means k b) → Means j b → Means (pick x k j) b
-    has x k j p q = of-pick (λ (i : Kind). Means i b) x k j p (λ e. q)
+    has x k j p q = pick-case (λ (i : Kind). Means i b) x k j p (λ e. q)
+
+pub told : (b : ℕ) (k : Kind) → kind-of b ≡ k → Means k b
+told b k e = subst (λ (j : Kind). Means j b) e (kind-means b)
 
 -- All marks lie between the expansions and the characters.
 pub character-is-no-mark : (b k : ℕ) → is-character b ≡ true → k < 0x20 → eqb b k ≡ false

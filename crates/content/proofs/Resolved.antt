@@ -17,7 +17,7 @@ use Rattle.content.specs.declared.byte.Code.the-variants.{Hour, Minute, 
 use Rattle.content.specs.declared.byte.Coded.{Coded}
 use Rattle.content.specs.declared.byte.Coded.the-variants as coded
 use Rattle.content.specs.declared.strip.Values.{Values}
-use Rattle.frame.proofs.Laws.{both-true, of-pick, true-both}
+use Rattle.frame.proofs.Laws.{both-true, pick-case, true-both}
 use Rattle.content.proofs.Good.{good-tree-tells, tree-is-good}
 
 pub characters-bytes : (cs : List ℕ) → items-bytes (characters cs) ≡ cs
@@ -193,7 +193,7 @@ module _ (v : Values) where
 module _ (v : Values) where
   code-text-length : (c : Coded) → length (code-text v c) ≤ 1
   code-text-length (coded.Code c) =
-      of-pick (λ (t : List ℕ). length t ≤ 1) (eqb (character-of v c) 0x00) _ _ (λ e. omega arith) (λ e. omega arith)
+      pick-case (λ (t : List ℕ). length t ≤ 1) (eqb (character-of v c) 0x00) _ _ (λ e. omega arith) (λ e. omega arith)
   code-text-length coded.Not = omega arith
 
   date-text-length : (cs : List ℕ) → length (date-text v cs) ≤ length cs

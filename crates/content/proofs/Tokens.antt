@@ -5,7 +5,7 @@ use mathlib.Core.List.{List}
 use mathlib.Core.Logic.{_⊎_, inl, inr}
 use mathlib.Core.Path.{_≡_, refl, sym, _∙_, ap, subst}
 use native.Mathlib.Omega.{arith}
-use borrow.Author.Tests.{ltb-true, ltb-false, eqb-true}
+use borrow.Author.Tests.{ltb-true, ltb-false}
 use lib.Dec.{eqb, ltb}
 use lib.ListN.{length, getD, drop, drop-of-length-le, List·getD-eq-default}
 use Rattle.frame.proofs.Laws.{pick-case, drop-next, stands}
@@ -30,33 +30,6 @@ use Rattle.content.specs.declared.machine.Spot.{Spot}
 use Rattle.content.specs.declared.machine.Spot.the-variants.{Line, Expansion, Font, Inside, TabulationCount, TabulationEnd, CounterNumber, CounterEnd}
 use Rattle.content.specs.declared.test.Verdict.{Verdict}
 use Rattle.content.specs.declared.test.Verdict.the-variants.{Unfit}
-
--- What a byte's kind tells of the byte.
-abbrev pub Told : ℕ → Kind → Type 0
-Told b kind.Line = b ≡ 0x0A
-Told b kind.End = b ≡ 0x0D
-Told b kind.Field = b ≡ 0x12
-Told b kind.Date = b ≡ 0x1B
-Told b kind.Counter = b ≡ 0x1C
-Told b kind.Tabulation = b ≡ 0x1E
-Told b kind.Expansion = is-expansion b ≡ true
-Told b kind.Character = is-character b ≡ true
-Told b kind.Other = b ≡ b
-
-kind-tells : (b : ℕ) → Told b (kind-of b)
-unfolding kind-of
-kind-tells b =
-    pick-case (Told b) (eqb b 0x0A) _ _ (λ t. eqb-true b 0x0A t)
-    (λ n. pick-case (Told b) (eqb b 0x0D) _ _ (λ t. eqb-true b 0x0D t)
-    (λ n. pick-case (Told b) (eqb b 0x12) _ _ (λ t. eqb-true b 0x12 t)
-    (λ n. pick-case (Told b) (eqb b 0x1B) _ _ (λ t. eqb-true b 0x1B t)
-    (λ n. pick-case (Told b) (eqb b 0x1C) _ _ (λ t. eqb-true b 0x1C t)
-    (λ n. pick-case (Told b) (eqb b 0x1E) _ _ (λ t. eqb-true b 0x1E t)
-    (λ n. pick-case (Told b) (is-expansion b) _ _ (λ t. t)
-    (λ n. pick-case (Told b) (is-character b) _ _ (λ t. t) (λ n. refl))))))))
-
-pub told : (b : ℕ) (k : Kind) → kind-of b ≡ k → Told b k
-told b k e = subst (Told b) e (kind-tells b)
 
 -- The byte 0 stands nowhere, so the reader finds nothing behind the end.
 zero-stands-nowhere : (spot : Spot) (seen : Seen) → stepped spot 0 seen ≡ Bad

@@ -25,7 +25,8 @@ use Rattle.content.specs.declared.machine.Spot.{Spot}
 use Rattle.content.specs.declared.machine.Spot.the-variants.{Line, Expansion, Font, Inside}
 use Rattle.content.specs.declared.test.Verdict.the-variants.{Good, Unfit}
 use Rattle.frame.proofs.Laws.{drop-next}
-use Rattle.content.proofs.Tokens.{Moves, moves, reads-on, stops, told, Closing, Goes, Closes, Fails, reads-token}
+use Rattle.content.proofs.Bytes.{told}
+use Rattle.content.proofs.Tokens.{Moves, moves, reads-on, stops, Closing, Goes, Closes, Fails, reads-token}
 
 -- We are at a place of the bytes in a mode, and what is left gives the verdict.
 pub record At (s : List ℕ) (m : Mode) (at : ℕ) : Type 0 where

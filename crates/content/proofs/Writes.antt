@@ -20,7 +20,7 @@ use Rattle.content.specs.declared.machine.Mode.{Mode}
 use Rattle.content.specs.declared.position.Mark.{Mark}
 use Rattle.content.specs.declared.position.Mark.the-variants.{Structure, Character, FieldCharacter}
 use Rattle.content.specs.declared.edit.Edited.the-variants.{Done, NoPosition, NoCharacter}
-use Rattle.frame.proofs.Laws.{never, both-true, of-pick}
+use Rattle.frame.proofs.Laws.{never, both-true, pick-case}
 use Rattle.content.proofs.Changes.{characters-are-no-structure, change-keeps}
 
 -- A content so changed stays one.
@@ -129,7 +129,7 @@ laid-changes : (m : Mode) (s text : List ℕ) → all-characters text ≡ true �
 laid-changes m [] text e = none
 laid-changes m (b ∷ s) text e =
     let more = laid-changes (step m b) s (rest-of text) (rest-are-characters text e) in
-    of-pick (λ (t : List ℕ). Changed m (b ∷ s) t) (is-field-position (mark-of m b)) _ _
+    pick-case (λ (t : List ℕ). Changed m (b ∷ s) t) (is-field-position (mark-of m b)) _ _
     (λ p. changed (field-is-position (mark-of m b) p) (next-is-character text e) more)
     (λ p. kept (laid-changes (step m b) s text e))
 
@@ -147,7 +147,7 @@ laid-lands :
     (m : Mode) (s text : List ℕ) → all-characters text ≡ true → at-fields m (laid text m s) ≡ fitted (field-positions-from m s) text
 laid-lands m [] text e = rw zero-sub
 laid-lands m (b ∷ s) text e =
-    of-pick (λ (t : List ℕ). at-fields m t ≡ fitted (field-positions-from m (b ∷ s)) text) (is-field-position (mark-of m b)) _ _
+    pick-case (λ (t : List ℕ). at-fields m t ≡ fitted (field-positions-from m (b ∷ s)) text) (is-field-position (mark-of m b)) _ _
     (λ p.
     let same = characters-are-no-structure m b (next-of text) (field-is-position (mark-of m b) p) (next-is-character text e) in
     rw (same .0, same .1, p, one-add, fitted-next, laid-lands (step m b) s (rest-of text) (rest-are-characters text e)))
@@ -159,7 +159,7 @@ update-lands s text e = laid-lands start s text e
 laid-length : (m : Mode) (s text : List ℕ) → length (laid text m s) ≡ length s
 laid-length m [] text = refl
 laid-length m (b ∷ s) text =
-    of-pick (λ (t : List ℕ). length t ≡ suc (length s)) (is-field-position (mark-of m b)) _ _
+    pick-case (λ (t : List ℕ). length t ≡ suc (length s)) (is-field-position (mark-of m b)) _ _
     (λ p. ap suc (laid-length (step m b) s (rest-of text)))
     (λ p. ap suc (laid-length (step m b) s text))
 
@@ -171,7 +171,7 @@ laid-elsewhere : (m : Mode) (s text : List ℕ) (i : ℕ) → is-field-position 
 laid-elsewhere m [] text i e = refl
 laid-elsewhere m (b ∷ s) text zero e = rw e
 laid-elsewhere m (b ∷ s) text (suc i) e =
-    of-pick (λ (t : List ℕ). getD t (suc i) 0 ≡ getD s i 0) (is-field-position (mark-of m b)) _ _
+    pick-case (λ (t : List ℕ). getD t (suc i) 0 ≡ getD s i 0) (is-field-position (mark-of m b)) _ _
     (λ p. laid-elsewhere (step m b) s (rest-of text) i e)
     (λ p. laid-elsewhere (step m b) s text i e)
 

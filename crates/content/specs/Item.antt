@@ -1,6 +1,6 @@
 -- What the item reader finds at a place: an item and where it ends, a byte that ends the block, or a byte that can't stand there.
 use Prim.Native.Nat.{ℕ, _+_}
-use mathlib.Core.Bool.{Bool, true, false}
+use mathlib.Core.Bool.{Bool}
 use mathlib.Core.List.{List}
 use lib.Dec.{eqb, ltb}
 use lib.ListN.{getD}

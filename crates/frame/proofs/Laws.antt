@@ -19,6 +19,7 @@ use Rattle.frame.specs.Build.{Lays}
 pub ruleset tests = (eq-eqb, ne-eqb, lt-ltb, le-ltb, le-leb, lt-leb, needs)
 
 -- ---- Ways through a chain of tests.
+-- What holds of either choice holds of the choice.
 pub pick-case : {A : Type 0} (P : A → Type 0) (b : Bool) (x y : A) → (b ≡ true → P x) → (b ≡ false → P y) → P (pick b x y)
 pick-case P true x y p q = p refl
 pick-case P false x y p q = q refl
@@ -54,11 +55,6 @@ within-true least most n e =
 
 pub true-within : (least most n : ℕ) → least ≤ n → n ≤ most → within least most n ≡ true
 true-within least most n p q = true-both (leb least n) (leb n most) (le-leb least n p) (le-leb n most q)
-
--- What holds of either choice holds of the choice.
-pub of-pick : {A : Type 0} (P : A → Type 0) (x : Bool) (a b : A) → (x ≡ true → P a) → (x ≡ false → P b) → P (pick x a b)
-of-pick P true a b p q = p refl
-of-pick P false a b p q = q refl
 
 -- ---- A list that is read from a place on.
 -- One more byte.
