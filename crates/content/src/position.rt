@@ -91,3 +91,19 @@ pub fn field_positions(s: &[u8]) -> usize
     }
     count
 }
+
+// Whether the byte at an address is a character position; behind the content there is none.
+pub fn position_at(s: &[u8], address: usize) -> bool
+    ensures { λ r. ⌜ r ≡ position-at (now (s .entry)) address ⌝ }
+{
+    if s.len() <= address {
+        return false;
+    }
+    let mut mode = begin();
+    let mut i = 0;
+    while i < address {
+        mode = step(mode, s[i]);
+        i += 1;
+    }
+    is_position(mark_of(mode, s[address]))
+}

@@ -24,9 +24,13 @@ pub pick-case : {A : Type 0} (P : A → Type 0) (b : Bool) (x y : A) → (b ≡ 
 pick-case P true x y p q = p refl
 pick-case P false x y p q = q refl
 
+pub unless-tells : {A : Type 0} (P : A → Type 0) (b : Bool) (x y : A) → (b ≡ false → P x) → (b ≡ true → P y) → P (unless b x y)
+unless-tells P true x y p q = q refl
+unless-tells P false x y p q = p refl
+
+-- The same where neither choice needs the test.
 pub unless-case : {A : Type 0} (P : A → Type 0) (b : Bool) (x y : A) → P x → P y → P (unless b x y)
-unless-case P true x y p q = q
-unless-case P false x y p q = p
+unless-case P b x y p q = unless-tells P b x y (λ _. p) (λ _. q)
 
 pub pick-other : {A : Type 0} (b : Bool) (x y z : A) → z ≡ pick b x y → (z ≡ x → ⊥) → (b ≡ false) × (z ≡ y)
 pick-other true x y z e n = absurd (n e)

@@ -1,0 +1,22 @@
+-- All samples of document 01 that are marked P hold of the rules, by computation.
+use mathlib.Core.List.{map}
+use mathlib.Core.Path.{_≡_, refl}
+use Rattle.frame.specs.Wire.{size-of}
+use Rattle.frame.specs.Receive.{received, updated, judged, framed}
+use Rattle.frame.specs.Build.{frame}
+use Rattle.content.specs.Byte.{is-character, is-expansion, is-count, kind-of, code-of}
+use Rattle.content.specs.Machine.{with-line, with-field}
+use Rattle.content.specs.Content.{verdict, is-content, tested}
+use Rattle.content.specs.Position.{mark-of}
+use Rattle.content.specs.Edit.{edited}
+use Rattle.printer.specs.Clock.{is-leap, days-in, is-real}
+use Rattle.printer.specs.Parameters.{good-parameters}
+use Rattle.printer.specs.Jet.{has-jet, valid-message, valid-counting, valid-jet}
+use Rattle.printer.specs.State.{jet-at, with-jet, valid}
+use Rattle.printer.specs.Change.{set-message, edit-message}
+use Rattle.printer.specs.Receive.{asked, obeyed, outcome}
+use Rattle.printer.specs.Samples.{samples, come-out}
+
+pub samples-hold : map come-out samples ≡ samples
+unfolding size-of received updated judged framed frame is-character is-expansion is-count kind-of code-of with-line with-field verdict is-content tested mark-of edited is-leap days-in is-real good-parameters has-jet valid-message valid-counting valid-jet jet-at with-jet valid set-message edit-message asked obeyed outcome
+samples-hold = refl

@@ -1,0 +1,97 @@
+-- The clock: what a real moment is, the next moment, and the texts of a moment.
+use Prim.Native.Nat.{ℕ, zero, suc, _+_, _-_, _*_, _/_, _%_}
+use mathlib.Core.Bool.{Bool, true, false}
+use mathlib.Core.List.{List, [], _∷_, _++_}
+use lib.Dec.{eqb, leb, ltb}
+use lib.ListN.{take, drop}
+use Rattle.frame.specs.Ground.{pick, both, within}
+use Rattle.printer.specs.declared.clock.Clock.{Clock}
+
+-- 01, Parameters, counter, clock: "00 to 99 for 2000 to 2099, Gregorian".
+unfoldable pub is-leap : ℕ → Bool
+is-leap year =
+    pick (eqb ((2000 + year) % 400) 0) true (pick (eqb ((2000 + year) % 100) 0) false (eqb ((2000 + year) % 4) 0))
+
+unfoldable pub days-in : ℕ → ℕ → ℕ
+days-in month year =
+    pick (eqb month 2) (pick (is-leap year) 29 28)
+    (pick (eqb month 4) 30 (pick (eqb month 6) 30 (pick (eqb month 9) 30 (pick (eqb month 11) 30 31))))
+
+-- 01, Parameters, counter, clock: "The clock has seconds to years"; a state's clock is "a real moment".
+unfoldable pub is-real : Clock → Bool
+is-real c =
+    both (leb (c .second) 59)
+    (both (leb (c .minute) 59)
+    (both (leb (c .hour) 23)
+    (both (within 1 12 (c .month))
+    (both (within 1 (days-in (c .month) (c .year)) (c .day))
+    (leb (c .year) 99)))))
+
+abbrev pub moment : ℕ → ℕ → ℕ → ℕ → ℕ → ℕ → Clock
+moment second minute hour day month year =
+    record { second = second; minute = minute; hour = hour; day = day; month = month; year = year }
+
+-- 01, Parameters, counter, clock: "It moves by a call per second; 31 December 2099 23:59:59 is followed by 1 January 2000 00:00:00."
+unfoldable pub next-year : Clock → Clock
+next-year c = pick (ltb (c .year) 99) (moment 0 0 0 1 1 (c .year + 1)) (moment 0 0 0 1 1 0)
+
+unfoldable pub next-month : Clock → Clock
+next-month c = pick (ltb (c .month) 12) (moment 0 0 0 1 (c .month + 1) (c .year)) (next-year c)
+
+unfoldable pub next-day : Clock → Clock
+next-day c =
+    pick (ltb (c .day) (days-in (c .month) (c .year))) (moment 0 0 0 (c .day + 1) (c .month) (c .year)) (next-month c)
+
+unfoldable pub next-hour : Clock → Clock
+next-hour c = pick (ltb (c .hour) 23) (moment 0 0 (c .hour + 1) (c .day) (c .month) (c .year)) (next-day c)
+
+unfoldable pub next-minute : Clock → Clock
+next-minute c =
+    pick (ltb (c .minute) 59) (moment 0 (c .minute + 1) (c .hour) (c .day) (c .month) (c .year)) (next-hour c)
+
+unfoldable pub tick : Clock → Clock
+tick c =
+    pick (ltb (c .second) 59) (moment (c .second + 1) (c .minute) (c .hour) (c .day) (c .month) (c .year)) (next-minute c)
+
+-- Two digits of a number below 100.
+abbrev pub tens : ℕ → ℕ
+tens n = n / 10 % 10 + 0x30
+
+abbrev pub ones : ℕ → ℕ
+ones n = n % 10 + 0x30
+
+-- 01, What a content is: "Hour, minute and day entries are two digits and 00h".
+abbrev pub entry : ℕ → List ℕ
+entry n = tens n ∷ ones n ∷ 0x00 ∷ []
+
+-- 01, What a content is: "Month entries are JAN FEV MAR AVR MAI JUN JUI AOU SEP OCT NOV DEC".
+abbrev pub months : List ℕ
+months =
+    0x4A ∷ 0x41 ∷ 0x4E ∷ 0x46 ∷ 0x45 ∷ 0x56 ∷ 0x4D ∷ 0x41 ∷ 0x52 ∷ 0x41 ∷ 0x56 ∷ 0x52
+    ∷ 0x4D ∷ 0x41 ∷ 0x49 ∷ 0x4A ∷ 0x55 ∷ 0x4E ∷ 0x4A ∷ 0x55 ∷ 0x49 ∷ 0x41 ∷ 0x4F ∷ 0x55
+    ∷ 0x53 ∷ 0x45 ∷ 0x50 ∷ 0x4F ∷ 0x43 ∷ 0x54 ∷ 0x4E ∷ 0x4F ∷ 0x56 ∷ 0x44 ∷ 0x45 ∷ 0x43 ∷ []
+
+abbrev pub month-entry : ℕ → List ℕ
+month-entry month = take 3 (drop (3 * (month - 1)) months)
+
+-- 01, Parameters, counter, clock: "D6h's data: seconds, minutes, hours (2 digits each), 2 spaces, day (2), 5 spaces, month (2), month
+-- letters (3), year (2)."
+abbrev pub two : ℕ → List ℕ
+two n = tens n ∷ ones n ∷ []
+
+unfoldable pub clock-text : Clock → List ℕ
+clock-text c =
+    two (c .second) ++ two (c .minute) ++ two (c .hour) ++ (0x20 ∷ 0x20 ∷ []) ++ two (c .day)
+    ++ (0x20 ∷ 0x20 ∷ 0x20 ∷ 0x20 ∷ 0x20 ∷ []) ++ two (c .month) ++ month-entry (c .month) ++ two (c .year)
+
+-- 01, Parameters, counter, clock: "52h's data: "0000", "01" to "96", A to Z, the twelve months."
+abbrev pub numbers : ℕ → ℕ → List ℕ
+numbers zero from = []
+numbers (suc count) from = two from ++ numbers count (from + 1)
+
+abbrev pub letters : ℕ → ℕ → List ℕ
+letters zero from = []
+letters (suc count) from = from ∷ letters count (from + 1)
+
+unfoldable pub table-text : List ℕ
+table-text = (0x30 ∷ 0x30 ∷ 0x30 ∷ 0x30 ∷ []) ++ numbers 96 1 ++ letters 26 0x41 ++ months

@@ -1,0 +1,66 @@
+-- The samples of document 01 that are marked P, in one list: what is fed in, and what must come out.
+use Prim.Native.Nat.{ℕ, _+_}
+use mathlib.Core.List.{List, [], _∷_, _++_}
+use Rattle.frame.specs.Build.{frame}
+use Rattle.content.specs.Content.{tested}
+use Rattle.printer.specs.Clock.{moment}
+use Rattle.printer.specs.Jet.{message}
+use Rattle.printer.specs.State.{fresh-printer}
+use Rattle.printer.specs.Receive.{Outcome, outcome}
+use Rattle.printer.specs.declared.state.Printer.{Printer}
+
+-- Frames sent to a fresh type 1, the number that the last one gets and the message that jet 1 then holds; or a content and its number.
+pub data Sample : Type 0 where
+  sent : List (List ℕ) → ℕ → List ℕ → Sample
+  tried : List ℕ → ℕ → Sample
+
+-- What a printer makes of one frame, with buffers of the stated size.
+abbrev pub receives : Printer → List ℕ → Outcome
+receives p s = outcome p s 554 6144
+
+-- The last number and the message of jet 1, when frames are sent one after the other.
+abbrev pub sending : ℕ → Printer → List (List ℕ) → (ℕ × List ℕ)
+sending n p [] = (n, message (p .first))
+sending n p (s ∷ rest) = sending (receives p s .number) (receives p s .printer) rest
+
+-- What the rules themselves make of what a sample feeds in.
+abbrev pub come-out : Sample → Sample
+come-out (sent frames n m) =
+    sent frames (sending 0 (fresh-printer 1 (moment 0 0 0 1 1 0)) frames .0) (sending 0 (fresh-printer 1 (moment 0 0 0 1 1 0)) frames .1)
+come-out (tried s n) = tried s (tested s)
+
+-- Document 001's and 002's example: its content of 18 bytes, and frame A with a check byte.
+abbrev pub imaje : List ℕ
+imaje =
+    0x0A ∷ 0x02 ∷ 0x38 ∷ 0x49 ∷ 0x4D ∷ 0x41 ∷ 0x4A ∷ 0x45 ∷ 0x20 ∷ 0x01 ∷ 0x54 ∷ 0x46 ∷ 0x52 ∷ 0x41 ∷ 0x4E ∷ 0x43 ∷ 0x45 ∷ 0x0D ∷ []
+
+abbrev pub frame-a : ℕ → List ℕ
+frame-a check = (0x0A ∷ 0x00 ∷ 0x13 ∷ 0x01 ∷ imaje) ++ (check ∷ [])
+
+-- 42h on jet 1 with letters from an address below 256 on.
+abbrev pub edit : ℕ → List ℕ → List ℕ
+edit address letters = frame 0x42 (0x01 ∷ 0x00 ∷ address ∷ letters)
+
+abbrev pub samples : List Sample
+samples =
+    -- P1 and P2: frame A, and the same with check 06.
+    sent (frame-a 0x07 ∷ []) 0 imaje
+    ∷ sent (frame-a 0x06 ∷ []) 5 []
+    -- P3: the text becomes "IMITE ".
+    ∷ sent
+    (frame-a 0x07 ∷ (0x42 ∷ 0x00 ∷ 0x05 ∷ 0x01 ∷ 0x00 ∷ 0x05 ∷ 0x49 ∷ 0x54 ∷ 0x5E ∷ []) ∷ [])
+    0
+    (0x0A ∷ 0x02 ∷ 0x38 ∷ 0x49 ∷ 0x4D ∷ 0x49 ∷ 0x54 ∷ 0x45 ∷ 0x20 ∷ 0x01 ∷ 0x54 ∷ 0x46 ∷ 0x52 ∷ 0x41 ∷ 0x4E ∷ 0x43 ∷ 0x45 ∷ 0x0D ∷ [])
+    -- P4 to P7: an expansion, a font, the last letter, the end mark.
+    ∷ sent (frame-a 0x07 ∷ edit 8 (0x41 ∷ 0x42 ∷ []) ∷ []) 12 imaje
+    ∷ sent (frame-a 0x07 ∷ edit 10 (0x41 ∷ []) ∷ []) 12 imaje
+    ∷ sent (frame-a 0x07 ∷ edit 16 (0x53 ∷ []) ∷ []) 0
+    (0x0A ∷ 0x02 ∷ 0x38 ∷ 0x49 ∷ 0x4D ∷ 0x41 ∷ 0x4A ∷ 0x45 ∷ 0x20 ∷ 0x01 ∷ 0x54 ∷ 0x46 ∷ 0x52 ∷ 0x41 ∷ 0x4E ∷ 0x43 ∷ 0x53 ∷ 0x0D ∷ [])
+    ∷ sent (frame-a 0x07 ∷ edit 17 (0x41 ∷ []) ∷ []) 12 imaje
+    -- P8 to P12.
+    ∷ tried (0x0A ∷ 0x01 ∷ 0x01 ∷ 0x0D ∷ []) 0
+    ∷ tried (0x0A ∷ 0x0D ∷ []) 10
+    ∷ tried (0x0D ∷ []) 10
+    ∷ tried (0x0A ∷ 0x01 ∷ 0x01 ∷ 0x1E ∷ 0x0D ∷ 0x1E ∷ 0x0D ∷ []) 0
+    ∷ tried (0x0A ∷ 0x01 ∷ 0x01 ∷ 0x1E ∷ 0x00 ∷ 0x1E ∷ 0x0D ∷ []) 10
+    ∷ []
