@@ -129,6 +129,14 @@ laid-here a w d before last r e h p =
     room : (a : ℕ) (w d before : List ℕ) → length w ≡ a → a + length d ≤ length before → length d ≤ length (midOf a (length (over w before) - a) (over w before))
     room a w d before e h = rw lent-tail (simp length-drop (omega (arith, length-over w before (omega arith))))
 
+-- What a callee leaves in a buffer whose part from a on it was lent, where w stands before a and it laid bytes over the part's front.
+pub left-behind : (a : ℕ) (w more before last xs : List ℕ) → length w ≡ a → a ≤ length before → xs ≡ over w before
+    → last ≡ over more (midOf a (length xs - a) xs) → putMid a (length xs - a) xs last ≡ over (w ++ more) before
+left-behind a w more before last xs e h q p =
+    subst (λ (l : List ℕ). last ≡ over more (midOf a (length l - a) l) → putMid a (length l - a) l last ≡ over (w ++ more) before) (sym q)
+    (λ u. ap (λ (l : List ℕ). putMid a (length (over w before) - a) (over w before) l) u ∙ tail-laid a w more before e h)
+    p
+
 -- What `lay` leaves in a buffer whose part from a on it was lent, where w stands before a.
 pub laid-behind : (a : ℕ) (w d before last : List ℕ) (r : Bool) (xs : List ℕ) → length w ≡ a → a + length d ≤ length before → xs ≡ over w before
     → Lays (midOf a (length xs - a) xs) d r last → putMid a (length xs - a) xs last ≡ over (w ++ d) before

@@ -112,7 +112,7 @@ read-back identifier d rest h m =
     }
 
 -- ---- What the builder says it wrote.
-frame-length : (identifier : ℕ) (d : List ℕ) → length (frame identifier d) ≡ length d + 4
+pub frame-length : (identifier : ℕ) (d : List ℕ) → length (frame identifier d) ≡ length d + 4
 unfolding frame
 frame-length identifier d = omega (arith, length-append d (check (body identifier d) ∷ []))
 

@@ -139,7 +139,7 @@ both-valid p d v f =
     (λ g. jet-put p n v f h _ (parameters-stay _ (parameters-in d) (filled-valid p n v f h (drop 38 d) g) k) (filled-full p n v f h (drop 38 d) g))))
 
 -- The number 0 stands for an accepted edit alone.
-number-done : (x : Edited) → edit.number x ≡ 0 → x ≡ Done
+pub number-done : (x : Edited) → edit.number x ≡ 0 → x ≡ Done
 number-done Done e = refl
 number-done NoPosition e = absurd (omega arith)
 number-done NoCharacter e = absurd (omega arith)
@@ -160,7 +160,7 @@ edit-valid p d v f =
     jet-put p n v f h (with-message j c) (filled-valid p n v f h c g) (filled-full p n v f h c g))))
 
 -- ---- The jets of head 1.
-characters-behind : (n : ℕ) (text : List ℕ) → all-characters text ≡ true → all-characters (drop n text) ≡ true
+pub characters-behind : (n : ℕ) (text : List ℕ) → all-characters text ≡ true → all-characters (drop n text) ≡ true
 characters-behind zero text e = e
 characters-behind (suc n) [] e = refl
 characters-behind (suc n) (b ∷ text) e = characters-behind n text (both-true (is-character b) (all-characters text) e .1)

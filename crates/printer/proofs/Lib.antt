@@ -1,5 +1,5 @@
 -- The proofs of `printer`: the samples; what a valid state tells; the laws of the clock, of counting, of the state, of changes, of
--- prints and of outcomes; and that every contract has one outcome.
+-- prints and of outcomes; the demands; and that every contract has one outcome.
 pub mod Samples
 pub mod Valid
 pub mod Moments
@@ -7,10 +7,14 @@ pub mod Counts
 pub mod Messages
 pub mod Stays
 pub mod ChangeStays
-pub mod Lent
 pub mod Ready
 pub mod Prints
-pub mod Heard
 pub mod Said
 pub mod Outcomes
+pub mod Refusing
+pub mod Accepting
+pub mod Printing
+pub mod Reaching
+pub mod Editing
+pub mod Holding
 pub mod Unique

@@ -32,8 +32,8 @@ use Rattle.printer.specs.OutcomeLaws.{Refuses, RefusalKeeps, AcceptedAns
 use Rattle.printer.specs.declared.change.Change.{Change}
 use Rattle.printer.specs.declared.jet.Jet.{Jet}
 use Rattle.printer.specs.declared.state.Printer.{Printer}
-use Rattle.printer.proofs.Said.{frame-length}
-use Rattle.printer.proofs.Heard.{Sound, sound}
+use Rattle.frame.proofs.Whole.{frame-length}
+use Rattle.frame.proofs.Heard.{Sound, sound}
 use Rattle.printer.proofs.Valid.{valid-tells, message-short}
 
 -- The three kinds of outcome in a state.

@@ -1,19 +1,19 @@
 -- What the answers share: a byte at the front of the buffer, a frame behind it, and an outcome that is another by the tests that led to it.
 use Prim.Native.Nat.{ℕ, _+_, _-_, _≤_}
-use mathlib.Core.List.{List, [], _∷_, _++_}
+use mathlib.Core.List.{List, [], _∷_}
 use mathlib.Core.Path.{_≡_, refl, sym, _∙_, ap, subst}
 use native.Mathlib.Nat.{not-suc-le-zero}
 use native.Mathlib.Omega.{arith}
 use borrow.Author.Tests.{eq-eqb, ne-eqb, le-ltb}
 use borrow.Rule.Slice.PartMut.{midOf, putMid}
 use lib.Dec.{eqb}
-use lib.ListN.{length, set, length-set, length-drop, length-append}
+use lib.ListN.{length, set, length-set, length-drop}
 use Rattle.frame.specs.Ground.{over}
-use Rattle.frame.specs.Build.{frame, body, answered, bytes-of, Answers}
-use Rattle.frame.specs.Wire.{check}
+use Rattle.frame.specs.Build.{frame, answered, bytes-of, Answers}
 use Rattle.frame.specs.declared.build.Built.{Built}
 use Rattle.frame.specs.declared.build.Built.the-variants.{Written}
-use Rattle.frame.proofs.Laws.{pick-case, lent-tail, tail-laid}
+use Rattle.frame.proofs.Laws.{left-behind, pick-case, lent-tail}
+use Rattle.frame.proofs.Whole.{frame-length}
 use Rattle.printer.specs.Change.{set-message, set-parameters, set-both, edit-message}
 use Rattle.printer.specs.Request.{Told, ask-counter, ask-message, ask-table, ask-clock}
 use Rattle.printer.specs.Print.{Strips, Lengths-of, no-strips, all-strips}
@@ -39,14 +39,6 @@ says-byte b number consumed p before h e =
     record { number = refl; consumed = refl; answer = refl; lengths = e; state = refl; bytes = first-byte b before h }
 
 -- ---- A frame behind the first byte.
--- What a callee leaves in a buffer whose part from a on it was lent, where w stands before a and it laid bytes over the part's front.
-pub left-behind : (a : ℕ) (w more before last xs : List ℕ) → length w ≡ a → a ≤ length before → xs ≡ over w before
-    → last ≡ over more (midOf a (length xs - a) xs) → putMid a (length xs - a) xs last ≡ over (w ++ more) before
-left-behind a w more before last xs e h q p =
-    subst (λ (l : List ℕ). last ≡ over more (midOf a (length l - a) l) → putMid a (length l - a) l last ≡ over (w ++ more) before) (sym q)
-    (λ u. ap (λ (l : List ℕ). putMid a (length (over w before) - a) (over w before) l) u ∙ tail-laid a w more before e h)
-    p
-
 -- With room, and data that is not too long, `answer` writes the frame.
 pub answer-written : {part : List ℕ} {identifier : ℕ} {d : List ℕ} {r : Built} {last : List ℕ} → length d ≤ 550 → length d + 4 ≤ length part
     → Answers part identifier d r last → last ≡ over (frame identifier d) part
@@ -54,10 +46,6 @@ unfolding answered
 answer-written {part = part} {identifier = identifier} {d = d} {r = r} h g p =
     let e : r ≡ Written (length d + 4) = p .answer ∙ rw (le-ltb (length part) (length d + 4) g, le-ltb 550 (length d) h) refl in
     p .buffer ∙ ap (λ (b : Built). over (bytes-of b identifier d) part) e
-
-pub frame-length : (identifier : ℕ) (d : List ℕ) → length (frame identifier d) ≡ length d + 4
-unfolding frame
-frame-length identifier d = omega (arith, length-append d (check (body identifier d) ∷ []))
 
 -- 06h and a frame.
 pub says-frame : (identifier : ℕ) (d : List ℕ) (consumed : ℕ) (p : Printer) (before : List ℕ) {lengths : Lengths} {r : Built} {last : List ℕ}

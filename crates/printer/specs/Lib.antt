@@ -16,4 +16,5 @@ pub mod StateLaws
 pub mod ChangeLaws
 pub mod PrintLaws
 pub mod OutcomeLaws
+pub mod Demands
 pub mod Unique

@@ -29,7 +29,7 @@ come-out (sent frames n m) =
     sent frames (sending 0 (fresh-printer 1 (moment 0 0 0 1 1 0)) frames .0) (sending 0 (fresh-printer 1 (moment 0 0 0 1 1 0)) frames .1)
 come-out (tried s n) = tried s (tested s)
 
--- Document 001's and 002's example: its content of 18 bytes, and frame A with a check byte.
+-- Document 002's example: its content of 18 bytes, and frame A with a check byte.
 abbrev pub imaje : List ℕ
 imaje =
     0x0A ∷ 0x02 ∷ 0x38 ∷ 0x49 ∷ 0x4D ∷ 0x41 ∷ 0x4A ∷ 0x45 ∷ 0x20 ∷ 0x01 ∷ 0x54 ∷ 0x46 ∷ 0x52 ∷ 0x41 ∷ 0x4E ∷ 0x43 ∷ 0x45 ∷ 0x0D ∷ []

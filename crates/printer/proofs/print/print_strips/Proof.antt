@@ -14,7 +14,7 @@ use Rattle.printer.specs.Print.{ready-jet, strip-of, strips}
 use Rattle.printer.specs.declared.clock.Clock.{Clock}
 use Rattle.printer.specs.declared.jet.Jet.{Jet}
 use Rattle.printer.proofs.Ready.{Prints, AllPrint, all-print, strip-short}
-use Rattle.printer.proofs.Lent.{Laid, laid-length, laid-more, lent-room}
+use Rattle.frame.proofs.Lent.{Laid, laid-length, laid-more, lent-room}
 use Rattle.printer.proofs.print.print_strips.Statement.{statement}
 use Rattle.printer.proofs.print.print_strips.Tie as tie
 

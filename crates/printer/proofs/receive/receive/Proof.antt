@@ -19,7 +19,7 @@ use Rattle.printer.specs.declared.answer.Answered.{Answered}
 use Rattle.printer.specs.declared.change.Change.{Change}
 use Rattle.printer.specs.declared.state.Printer.{Printer}
 use Rattle.printer.proofs.Said.{says-same, meets-quiet, change-quiet, asked-quiet}
-use Rattle.printer.proofs.Heard.{update-inside, frame-inside, frame-fits}
+use Rattle.frame.proofs.Heard.{update-inside, frame-inside, frame-fits}
 use Rattle.printer.proofs.receive.receive.Statement.{statement}
 use Rattle.printer.proofs.receive.receive.Tie as tie
 
