@@ -11,6 +11,7 @@ pub mod Ready
 pub mod Prints
 pub mod Said
 pub mod Outcomes
+pub mod Consuming
 pub mod Refusing
 pub mod Accepting
 pub mod Printing

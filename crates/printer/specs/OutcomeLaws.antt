@@ -21,6 +21,11 @@ RefusalKeeps =
     (p : Printer) (s : List ℕ) (answer-room strip-room : ℕ) → (outcome p s answer-room strip-room .number ≡ 0 → ⊥)
     → Refuses p (outcome p s answer-room strip-room)
 
+-- 01, Numbers: consumed is "0", "all handed in", or "the frame, update or 05h": never more than was handed in.
+abbrev pub ConsumesHandedIn : Type 0
+ConsumesHandedIn =
+    (p : Printer) (s : List ℕ) (answer-room strip-room : ℕ) → outcome p s answer-room strip-room .consumed ≤ length s
+
 -- 01, Numbers: 0 "06h and any frame".
 abbrev pub AcceptedAnswers : Type 0
 AcceptedAnswers =
