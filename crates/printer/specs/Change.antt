@@ -1,5 +1,6 @@
 -- What the frames 0Ah, 0Bh, 0Ch, 42h and a field update change, and the number each gets.
 use Prim.Native.Nat.{ℕ, _+_}
+use mathlib.Core.Bool.{Bool}
 use mathlib.Core.List.{List}
 use lib.Dec.{eqb, ltb}
 use lib.ListN.{getD, take, drop}
@@ -25,36 +26,43 @@ refused number p = record { number = number; printer = p }
 abbrev pub changed : Printer → Change
 changed p = record { number = 0; printer = p }
 
--- The jet number is the first data byte, what follows is the rest; the 37 parameter bytes stand first in it.
+-- The first data byte is the jet number: whether that jet is on the printer, what it is, and the state with another in its place.
 abbrev pub jet-number : List ℕ → ℕ
 jet-number d = getD d 0 0
 
+abbrev pub on-printer : Printer → List ℕ → Bool
+on-printer p d = has-jet (p .kind) (jet-number d)
+
+abbrev pub jet-in : Printer → List ℕ → Jet
+jet-in p d = jet-at p (jet-number d)
+
+abbrev pub with-jet-in : Printer → List ℕ → Jet → Printer
+with-jet-in p d j = with-jet p (jet-number d) j
+
+-- Parameters stand right behind the jet number.
 abbrev pub parameters-in : List ℕ → List ℕ
 parameters-in d = take 37 (drop 1 d)
 
 -- 01, On the wire: 0Ah "jet, content". 01, Numbers: 8 "jet not on this printer", 10 "not a content".
 unfoldable pub set-message : Printer → List ℕ → Change
 set-message p d =
-    unless (has-jet (p .kind) (jet-number d)) (refused 8 p)
-    (unless (is-content (drop 1 d)) (refused 10 p)
-    (changed (with-jet p (jet-number d) (with-message (jet-at p (jet-number d)) (drop 1 d)))))
+    unless (on-printer p d) (refused 8 p)
+    (unless (is-content (drop 1 d)) (refused 10 p) (changed (with-jet-in p d (with-message (jet-in p d) (drop 1 d)))))
 
 -- 0Bh "jet, 37 parameter bytes". 9 "parameters not good".
 unfoldable pub set-parameters : Printer → List ℕ → Change
 set-parameters p d =
-    unless (has-jet (p .kind) (jet-number d)) (refused 8 p)
+    unless (on-printer p d) (refused 8 p)
     (unless (good-parameters (parameters-in d)) (refused 9 p)
-    (changed (with-jet p (jet-number d) (with-parameters (jet-at p (jet-number d)) (parameters-in d)))))
+    (changed (with-jet-in p d (with-parameters (jet-in p d) (parameters-in d)))))
 
 -- 0Ch "jet, 37 parameter bytes, content".
 unfoldable pub set-both : Printer → List ℕ → Change
 set-both p d =
-    unless (has-jet (p .kind) (jet-number d)) (refused 8 p)
+    unless (on-printer p d) (refused 8 p)
     (unless (good-parameters (parameters-in d)) (refused 9 p)
     (unless (is-content (drop 38 d)) (refused 10 p)
-    (changed
-    (with-jet p (jet-number d)
-    (with-parameters (with-message (jet-at p (jet-number d)) (drop 38 d)) (parameters-in d))))))
+    (changed (with-jet-in p d (with-parameters (with-message (jet-in p d) (drop 38 d)) (parameters-in d))))))
 
 -- 42h "jet, address (2), symbols". 11 "no content"; then 12 and 13 as the edit says.
 abbrev pub address-in : List ℕ → ℕ
@@ -63,13 +71,15 @@ address-in d = word (getD d 1 0) (getD d 2 0)
 abbrev pub edited-jet : Jet → ℕ → List ℕ → Jet
 edited-jet j address symbols = with-message j (edit.replaced (message j) address symbols)
 
+abbrev pub edit-number : Jet → List ℕ → ℕ
+edit-number j d = edit.number (edit.edited (message j) (address-in d) (drop 3 d))
+
 unfoldable pub edit-message : Printer → List ℕ → Change
 edit-message p d =
-    unless (has-jet (p .kind) (jet-number d)) (refused 8 p)
-    (unless (has-message (jet-at p (jet-number d))) (refused 11 p)
-    (unless (eqb (edit.number (edit.edited (message (jet-at p (jet-number d))) (address-in d) (drop 3 d))) 0)
-    (refused (edit.number (edit.edited (message (jet-at p (jet-number d))) (address-in d) (drop 3 d))) p)
-    (changed (with-jet p (jet-number d) (edited-jet (jet-at p (jet-number d)) (address-in d) (drop 3 d))))))
+    unless (on-printer p d) (refused 8 p)
+    (unless (has-message (jet-in p d)) (refused 11 p)
+    (unless (eqb (edit-number (jet-in p d) d) 0) (refused (edit-number (jet-in p d) d) p)
+    (changed (with-jet-in p d (edited-jet (jet-in p d) (address-in d) (drop 3 d))))))
 
 -- 01, What an accepted frame does: "An update lays its characters over the character positions of external fields on head 1, jets
 -- ascending, fields in order". 11 "no field position on head 1", 13 "an update byte is no character".

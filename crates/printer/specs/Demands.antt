@@ -23,8 +23,8 @@ use Rattle.printer.specs.Clock.{clock-text, table-text}
 use Rattle.printer.specs.Number.{digits}
 use Rattle.printer.specs.Parameters.{good-parameters}
 use Rattle.printer.specs.Jet.{has-jet, has-message, message, with-message, with-parameters}
-use Rattle.printer.specs.State.{jet-at, with-jet, valid}
-use Rattle.printer.specs.Change.{jet-number, parameters-in, address-in, edited-jet, first-of-head, second-of-head, updated-head}
+use Rattle.printer.specs.State.{jet-at, valid}
+use Rattle.printer.specs.Change.{jet-number, on-printer, jet-in, with-jet-in, parameters-in, address-in, edited-jet, first-of-head, second-of-head, updated-head}
 use Rattle.printer.specs.Request.{three-bytes}
 use Rattle.printer.specs.Print.{ready, Strips, strips, values, no-strips, counted}
 use Rattle.printer.specs.Receive.{Outcome, outcome, nack, silent, refusal, done}
@@ -84,17 +84,17 @@ RefusedStays =
 -- What a frame of each identifier must meet, in no order.
 abbrev pub passes-frame : Printer → ℕ → List ℕ → Bool
 passes-frame p identifier d =
-    pick (eqb identifier 0x0A) (both (has-jet (p .kind) (jet-number d)) (is-content (drop 1 d)))
-    (pick (eqb identifier 0x0B) (both (has-jet (p .kind) (jet-number d)) (good-parameters (parameters-in d)))
+    pick (eqb identifier 0x0A) (both (on-printer p d) (is-content (drop 1 d)))
+    (pick (eqb identifier 0x0B) (both (on-printer p d) (good-parameters (parameters-in d)))
     (pick (eqb identifier 0x0C)
-    (both (has-jet (p .kind) (jet-number d)) (both (good-parameters (parameters-in d)) (is-content (drop 38 d))))
-    (pick (eqb identifier 0x39) (both (has-jet (p .kind) (jet-number d)) (jet-at p (jet-number d) .set))
+    (both (on-printer p d) (both (good-parameters (parameters-in d)) (is-content (drop 38 d))))
+    (pick (eqb identifier 0x39) (both (on-printer p d) (jet-in p d .set))
     (pick (eqb identifier 0x42)
-    (both (has-jet (p .kind) (jet-number d))
-    (both (has-message (jet-at p (jet-number d)))
-    (both (addressed (drop 3 d) (drop (address-in d) (marks start (message (jet-at p (jet-number d)))))) (all-characters (drop 3 d)))))
+    (both (on-printer p d)
+    (both (has-message (jet-in p d))
+    (both (addressed (drop 3 d) (drop (address-in d) (marks start (message (jet-in p d))))) (all-characters (drop 3 d)))))
     (pick (eqb identifier 0x43)
-    (both (has-jet (p .kind) (jet-number d)) (both (has-message (jet-at p (jet-number d))) (jet-at p (jet-number d) .set)))
+    (both (on-printer p d) (both (has-message (jet-in p d)) (jet-in p d .set)))
     (pick (eqb identifier 0x94) (ready p) true))))))
 
 abbrev pub passes-update : Printer → List ℕ → Bool
@@ -118,18 +118,18 @@ AcknowledgedExactly =
 -- The state, the frame behind the 06h and the strips that each identifier leads to, where it passes.
 abbrev pub jet-after : Printer → ℕ → List ℕ → Printer
 jet-after p identifier d =
-    pick (eqb identifier 0x0A) (with-jet p (jet-number d) (with-message (jet-at p (jet-number d)) (drop 1 d)))
-    (pick (eqb identifier 0x0B) (with-jet p (jet-number d) (with-parameters (jet-at p (jet-number d)) (parameters-in d)))
+    pick (eqb identifier 0x0A) (with-jet-in p d (with-message (jet-in p d) (drop 1 d)))
+    (pick (eqb identifier 0x0B) (with-jet-in p d (with-parameters (jet-in p d) (parameters-in d)))
     (pick (eqb identifier 0x0C)
-    (with-jet p (jet-number d) (with-parameters (with-message (jet-at p (jet-number d)) (drop 38 d)) (parameters-in d)))
-    (pick (eqb identifier 0x42) (with-jet p (jet-number d) (edited-jet (jet-at p (jet-number d)) (address-in d) (drop 3 d)))
+    (with-jet-in p d (with-parameters (with-message (jet-in p d) (drop 38 d)) (parameters-in d)))
+    (pick (eqb identifier 0x42) (with-jet-in p d (edited-jet (jet-in p d) (address-in d) (drop 3 d)))
     (pick (eqb identifier 0x94) (counted p) p))))
 
 abbrev pub frame-after : Printer → ℕ → List ℕ → List ℕ
 frame-after p identifier d =
     pick (eqb identifier 0x39)
-    (frame 0x39 (digits (jet-at p (jet-number d) .counter) ++ three-bytes (jet-at p (jet-number d) .batch)))
-    (pick (eqb identifier 0x43) (frame 0x43 (jet-at p (jet-number d) .parameters ++ message (jet-at p (jet-number d))))
+    (frame 0x39 (digits (jet-in p d .counter) ++ three-bytes (jet-in p d .batch)))
+    (pick (eqb identifier 0x43) (frame 0x43 (jet-in p d .parameters ++ message (jet-in p d)))
     (pick (eqb identifier 0x52) (frame 0x52 table-text)
     (pick (eqb identifier 0xD6) (frame 0x9C (clock-text (p .clock))) [])))
 

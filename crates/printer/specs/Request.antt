@@ -5,9 +5,8 @@ use Rattle.frame.specs.Ground.{unless, both}
 use Rattle.frame.specs.Build.{frame}
 use Rattle.printer.specs.Clock.{clock-text, table-text}
 use Rattle.printer.specs.Number.{digits}
-use Rattle.printer.specs.Jet.{has-jet, has-message, message}
-use Rattle.printer.specs.State.{jet-at}
-use Rattle.printer.specs.Change.{jet-number}
+use Rattle.printer.specs.Jet.{has-message, message}
+use Rattle.printer.specs.Change.{on-printer, jet-in}
 use Rattle.printer.specs.declared.state.Printer.{Printer}
 
 -- A number, and for 0 the frame that answers.
@@ -28,16 +27,16 @@ three-bytes n = n / 65536 % 256 ∷ n / 256 % 256 ∷ n % 256 ∷ []
 -- 01, On the wire: 39h answers "frame 39h: 9 digits, 3 batch bytes". 11 "no parameters".
 unfoldable pub ask-counter : Printer → List ℕ → Told
 ask-counter p d =
-    unless (has-jet (p .kind) (jet-number d)) (denied 8)
-    (unless (jet-at p (jet-number d) .set) (denied 11)
-    (told 0x39 (digits (jet-at p (jet-number d) .counter) ++ three-bytes (jet-at p (jet-number d) .batch))))
+    unless (on-printer p d) (denied 8)
+    (unless (jet-in p d .set) (denied 11)
+    (told 0x39 (digits (jet-in p d .counter) ++ three-bytes (jet-in p d .batch))))
 
 -- 01, On the wire: 43h answers "frame 43h: 37 bytes, content (no jet number)". 11 "either missing".
 unfoldable pub ask-message : Printer → List ℕ → Told
 ask-message p d =
-    unless (has-jet (p .kind) (jet-number d)) (denied 8)
-    (unless (both (has-message (jet-at p (jet-number d))) (jet-at p (jet-number d) .set)) (denied 11)
-    (told 0x43 (jet-at p (jet-number d) .parameters ++ message (jet-at p (jet-number d)))))
+    unless (on-printer p d) (denied 8)
+    (unless (both (has-message (jet-in p d)) (jet-in p d .set)) (denied 11)
+    (told 0x43 (jet-in p d .parameters ++ message (jet-in p d))))
 
 -- 01, On the wire: 52h answers "frame 52h, 258 bytes", D6h "frame 9Ch, 22 bytes".
 unfoldable pub ask-table : Told
