@@ -1,0 +1,133 @@
+// Scenarios over a box: instructions (counted by the plugin between two marks) and stack (painted) of each call.
+#include "sys.h"
+#include "api.h"     // struct box; api_fresh, api_receive, ..
+
+#define PAINT 0x5A
+#define DEEP 131072
+static __attribute__((noinline)) void paint(void) { volatile u8 a[DEEP]; for (size i = 0; i < DEEP; i++) a[i] = PAINT; }
+static __attribute__((noinline)) size depth(void) { volatile u8 a[DEEP]; size i = 0; while (i < DEEP && a[i] == PAINT) i++; return DEEP - i; }
+
+static struct box box, saved;
+static u8 in[1024], answer[554], strips[6144];    // what document 01 asks the caller for
+static size n_in;
+static size floor_stack;
+
+static void measure(const char *name, int what);
+// what a call said: its number, and of a receive also consumed, the answer's length and the four strips' lengths
+static void report(const char *name, int what, size stack)
+{
+    put("call "); put(name); put(" stack "); num(stack > floor_stack ? stack - floor_stack : 0); put(" said "); num(api_number());
+    if (what == 0) for (int i = 0; i < 6; i++) { put(","); num(api_count(i)); }
+    put("\n");
+}
+
+static __attribute__((noinline)) void perform(int what)
+{
+    switch (what) {
+    case 0: api_receive(&box, in, n_in, answer, sizeof answer, strips, sizeof strips); break;
+    case 1: api_tick(&box); break;
+    case 2: api_set_clock(&box); break;
+    case 3: api_fresh(&box, 4); break;
+    case 4: api_test(in, n_in); break;
+    case 5: api_build(strips, sizeof strips, 0x0A, in, n_in); break;
+    default: break;
+    }
+}
+static void measure(const char *name, int what)
+{
+    size d;
+    paint(); MARK(0); perform(what); MARK(1); d = depth();
+    if (what == 99) { floor_stack = d; return; }
+    report(name, what, d);
+}
+static void frame(u8 id, const u8 *d, size n)
+{
+    u8 c = 0;
+    in[0] = id; in[1] = (u8)(n >> 8); in[2] = (u8)n;
+    for (size i = 0; i < n; i++) in[3 + i] = d[i];
+    for (size i = 0; i < n + 3; i++) c ^= in[i];
+    in[n + 3] = c; n_in = n + 4;
+}
+static u8 d[600];
+static const u8 PARAM[37] = {1,2,3,4,5,6,7,8,9,10,11, 0x89, '0','0','0','0','0','0','0','9','8', '9','0','0','0','0','0','1','0','0', '0','2', 0,0,2, 0,0};
+// 512 bytes of plain characters
+static size plain(u8 *o) { size n = 0; o[n++] = 0x0A; o[n++] = 1; o[n++] = 0x54; while (n < 511) { o[n] = (u8)('A' + n % 26); n++; } o[n++] = 0x0D; return n; }
+// 512 bytes: counters as many as fit (the longest strip, 9 for 3)
+static size counters(u8 *o) { size n = 0; o[n++] = 0x0A; o[n++] = 1; o[n++] = 0x54; while (n + 3 <= 511) { o[n++] = 0x1C; o[n++] = 1; o[n++] = 0x1C; } while (n < 511) o[n++] = 'x'; o[n++] = 0x0D; return n; }
+// 512 bytes: one date item of codes
+static size dates(u8 *o) { size n = 0; o[n++] = 0x0A; o[n++] = 1; o[n++] = 0x54; o[n++] = 0x1B; while (n < 510) { o[n] = (u8)(n % 2 ? 0x55 : 0x62); n++; } o[n++] = 0x1B; o[n++] = 0x0D; return n; }
+// 512 bytes: ten fields
+static size fields(u8 *o) { size n = 0; o[n++] = 0x0A; o[n++] = 1; o[n++] = 0x54; for (int f = 0; f < 10; f++) { o[n++] = 0x12; for (int k = 0; k < 48; k++) o[n++] = 'f'; o[n++] = 0x12; } while (n < 511) o[n++] = 'x'; o[n++] = 0x0D; return n; }
+// 512 bytes: a mix of everything in four lines
+static size mixed(u8 *o)
+{
+    size n = 0;
+    for (int l = 0; l < 4; l++) {
+        o[n++] = 0x0A; o[n++] = 1; o[n++] = 0x54;
+        while (n < (size)(127 * (l + 1) - 30)) {
+            o[n++] = 'B'; o[n++] = 'E'; o[n++] = 'S'; o[n++] = 'T'; o[n++] = ' ';
+            o[n++] = 0x1C; o[n++] = 1; o[n++] = 0x1C; o[n++] = 0x1E; o[n++] = 13; o[n++] = 0x1E;
+            o[n++] = 0x1B; o[n++] = 0x61; o[n++] = 0x62; o[n++] = 0x71; o[n++] = 0x5B; o[n++] = 0x5C; o[n++] = 0x5D; o[n++] = 0x1B;
+        }
+        o[n++] = 0x12; for (int k = 0; k < 8; k++) o[n++] = 'f'; o[n++] = 0x12;
+    }
+    while (n < 511) o[n++] = 'x';
+    o[n++] = 0x0D; return n;
+}
+static void accepted(const char *what) { if (api_number()) { put("refused "); put(what); put(" with number "); num(api_number()); put("\n"); } }
+static void start(u8 model) { api_fresh(&box, model); accepted("a fresh printer"); saved = box; }
+static void fill(size (*make)(u8 *))    // four full jets
+{
+    start(4);
+    for (u8 j = 1; j <= 4; j++) {
+        d[0] = j; memcpy(d + 1, PARAM, 37); size n = make(d + 38); frame(0x0C, d, 38 + n);
+        api_receive(&box, in, n_in, answer, sizeof answer, strips, sizeof strips);
+        accepted("a message with parameters");
+    }
+    saved = box;
+}
+static void again(void) { box = saved; }
+static const u8 A[] = {0x01, 0x0A, 0x02, 0x38, 'I','M','A','J','E',' ', 0x01, 0x54, 'F','R','A','N','C','E', 0x0D};
+
+static void group(const char *state)
+{
+    size n; put("state "); put(state); put("\n");
+    again(); n_in = 0; measure("none", 0);
+    again(); in[0] = 0x0A; n_in = 1; measure("part-1", 0);
+    again(); d[0] = 1; n = plain(d + 1); frame(0x0A, d, 1 + n); n_in--; measure("part-516", 0);
+    again(); in[0] = 0x05; n_in = 1; measure("05", 0);
+    again(); frame(0x0A, A, sizeof A); measure("0A-small", 0);
+    again(); d[0] = 1; n = plain(d + 1); frame(0x0A, d, 1 + n); measure("0A-512", 0);
+    again(); d[0] = 1; n = mixed(d + 1); frame(0x0A, d, 1 + n); measure("0A-512-mixed", 0);
+    again(); d[0] = 1; memcpy(d + 1, PARAM, 37); frame(0x0B, d, 38); measure("0B", 0);
+    again(); d[0] = 1; memcpy(d + 1, PARAM, 37); n = plain(d + 38); frame(0x0C, d, 38 + n); measure("0C-512", 0);
+    again(); d[0] = 1; frame(0x39, d, 1); measure("39", 0);
+    again(); d[0] = 1; d[1] = 0; d[2] = 5; d[3] = 'I'; d[4] = 'T'; frame(0x42, d, 5); measure("42-2", 0);
+    again(); d[0] = 1; d[1] = 0; d[2] = 3; memset(d + 3, 'Q', 508); frame(0x42, d, 511); measure("42-508", 0);
+    again(); d[0] = 1; frame(0x43, d, 1); measure("43", 0);
+    again(); frame(0x52, d, 0); measure("52", 0);
+    again(); frame(0x94, d, 0); measure("94", 0);
+    again(); frame(0xD6, d, 0); measure("D6", 0);
+    again(); in[0] = 2; memset(in + 1, 'u', 1022); in[1023] = 3; n_in = 1024; measure("update-1022", 0);
+    again(); in[0] = 2; memset(in + 1, 'u', 10); in[11] = 3; n_in = 12; measure("update-10", 0);
+    again(); frame(0x0A, A, sizeof A); in[n_in - 1] ^= 1; measure("check-wrong", 0);
+    again(); in[0] = 0x0A; in[1] = 9; in[2] = 9; n_in = 3; measure("too-long", 0);
+    again(); measure("tick", 1);
+    again(); measure("set_clock", 2);
+    again(); measure("fresh", 3);
+    n = plain(in); n_in = n; measure("test-512", 4);
+    n = mixed(in); n_in = n; measure("test-512-mixed", 4);
+    memset(in, 7, 550); n_in = 550; measure("build-550", 5);
+}
+int bench_main(void)
+{
+    put("size state "); num(sizeof box); put(" answer "); num(sizeof answer); put(" strips "); num(sizeof strips); put(" input "); num(sizeof in); put("\n");
+    measure("empty", 99);
+    start(1); group("empty-type-1");
+    fill(plain); group("four-plain");
+    fill(mixed); group("four-mixed");
+    fill(counters); group("four-counters");
+    fill(dates); group("four-dates");
+    fill(fields); group("four-fields");
+    return 0;
+}

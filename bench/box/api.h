@@ -1,0 +1,31 @@
+// How C calls the proved box. The compiler hands every struct and slice by its address, a result that is a struct to the
+// address that comes first, and lays all of them out as on a 64-bit machine: usize has 64 bits also on Arm, and so has the
+// room of a slice's address.
+enum { STATE = 2243 };                          // printer::state::STATE
+struct clock { u8 second, minute, hour, day, month, year; };
+struct answered { u8 number; u64 consumed, answer, strips[4]; };
+struct slice { union { const void *p; u64 room; }; u64 n; };
+struct built { u8 tag, number; u64 n; };        // frame::build::Built: Refused(number), Written(n)
+struct box { u8 state[STATE]; };
+
+u8 box_fresh(const struct slice *state, u8 model, const struct clock *);
+u8 box_set_clock(const struct slice *state, const struct clock *);
+u8 box_tick(const struct slice *state);
+void box_receive(struct answered *, const struct slice *state, const struct slice *s, const struct slice *answer, const struct slice *strips);
+u8 box_test(const struct slice *s);
+void box_build(struct built *, const struct slice *out, u8 identifier, const struct slice *bytes);
+
+static struct answered got; static struct built made; static u64 number;
+static struct slice s0, s1, s2, s3;
+static const struct clock CLOCK = {58, 59, 23, 29, 2, 24};
+static inline const struct slice *lend(struct slice *s, const u8 *p, u64 n) { s->room = 0; s->p = p; s->n = n; return s; }
+static inline u64 api_number(void) { return number; }
+static inline u64 api_count(int i) { return i == 0 ? got.consumed : i == 1 ? got.answer : got.strips[i - 2]; }
+static inline void api_receive(struct box *b, u8 *s, size n, u8 *a, size an, u8 *t, size tn)
+{ box_receive(&got, lend(&s0, b->state, STATE), lend(&s1, s, n), lend(&s2, a, an), lend(&s3, t, tn)); number = got.number; }
+static inline void api_fresh(struct box *b, u8 model) { number = box_fresh(lend(&s0, b->state, STATE), model, &CLOCK); }
+static inline void api_tick(struct box *b) { number = box_tick(lend(&s0, b->state, STATE)); }
+static inline void api_set_clock(struct box *b) { number = box_set_clock(lend(&s0, b->state, STATE), &CLOCK); }
+static inline void api_test(u8 *s, size n) { number = box_test(lend(&s1, s, n)); }
+static inline void api_build(u8 *o, size on, u8 id, u8 *s, size n)
+{ box_build(&made, lend(&s1, o, on), id, lend(&s2, s, n)); number = made.tag == 1 ? 0 : made.number; }
