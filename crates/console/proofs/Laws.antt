@@ -1,17 +1,219 @@
--- What the program's proofs know of `receive`: the answer lies inside the answer buffer, and what is consumed was handed in.
-use Prim.Native.Nat.{ℕ, _≤_}
-use mathlib.Core.List.{List}
-use mathlib.Core.Path.{subst, sym}
-use lib.ListN.{length}
-use Rattle.line.proofs.Laws.{front-fits}
-use Rattle.printer.specs.Receive.{Outcome, Says, outcome}
-use Rattle.printer.proofs.Consuming.{consumes-handed-in}
+-- What the program's proofs cite: the start state, the line of a call over a text's front, and a walk that goes on.
+use Prim.Native.Nat.{ℕ, _+_, _-_, _<_, _≤_}
+use mathlib.Core.Bool.{Bool, true, false, false≢true}
+use mathlib.Core.Logic.{inl, inr}
+use mathlib.Core.List.{List, [], _∷_, _++_}
+use mathlib.Core.Path.{_≡_, refl, sym, subst, _∙_, ap}
+use native.Mathlib.Omega.{arith}
+use borrow.Rule.Slice.PartMut.{midOf}
+use borrow.Author.Tests.{eq-eqb, ne-eqb, le-ltb, eqb-true}
+use lib.Dec.{eqb}
+use lib.ListN.{length, take, drop, length-append, length-drop}
+use lib.Seq.{take-append-seam, take-all}
+use Rattle.line.specs.Line.{line, lined, bytes-of, Writes}
+use Rattle.line.specs.declared.Lined.{Lined}
+use Rattle.line.specs.declared.Lined.the-variants.{Short, Written}
+use Rattle.line.proofs.Laws.{length-line, most-digits, front-fits}
+use Rattle.printer.specs.Clock.{date, moment}
+use Rattle.printer.specs.State.{state-size}
+use Rattle.printer.specs.Call.{Freshens}
+use Rattle.printer.specs.Receive.{Outcome, Meets, Receives, outcome, kept, answer-size}
+use Rattle.printer.specs.Demands.{Call, hand-in, after, after-all, full}
 use Rattle.printer.specs.declared.answer.Answered.{Answered}
-use Rattle.printer.specs.declared.state.Printer.{Printer}
+use Rattle.printer.proofs.Accepting.{room-enough}
+use Rattle.printer.proofs.OutcomeLaws.{answer-fits, consumes-handed-in}
+use Rattle.console.specs.Console.{line-of, line-size, next, start-state, Walks, begins, goes-on, Starts, Turns, Runs}
+use Rattle.console.specs.declared.Turn.{Turn}
+use Rattle.console.proofs.Consuming.{next-takes}
+use Rattle.console.specs.declared.Ran.{Ran}
 
-pub answer-fits : (o : Outcome) (before : List ℕ) (r : Answered) (after : List ℕ) → Says o before r after → r .answer ≤ length after
-answer-fits o before r after p = front-fits (o .answer) before after (r .answer) (p .answer) (p .bytes)
+-- ---- The start.
+pub starts : (m : List ℕ) (r : ℕ) (m′ : List ℕ) → Freshens m 1 (moment 58 59 23 (date 29 2 24)) r m′ → Starts m m′
+starts m r m′ f =
+    record {
+      state = λ e. rw (eq-eqb (length m) state-size e) at (f .state);
+      other = λ e. rw (ne-eqb (length m) state-size e) at (f .state);
+    }
 
-pub consumed-fits : (p : Printer) (s : List ℕ) (answer-room strip-room : ℕ) (before : List ℕ) (r : Answered) (after : List ℕ)
-    → Says (outcome p s answer-room strip-room) before r after → r .consumed ≤ length s
-consumed-fits p s answer-room strip-room before r after e = subst (λ (k : ℕ). k ≤ length s) (sym (e .consumed)) (consumes-handed-in p s answer-room strip-room)
+-- ---- The line of a call.
+pub no-line : (o : Outcome) → o .number ≡ 3 → line-of o ≡ []
+no-line o e = rw (eq-eqb (o .number) 3 e)
+
+pub a-line : (o : Outcome) → (o .number ≡ 3 → ⊥) → line-of o ≡ line (o .number) (o .answer)
+a-line o e = rw (ne-eqb (o .number) 3 e)
+
+-- With buffers of the stated size.
+pub met : {m s answer strips : List ℕ} {r : Answered} {m′ answer′ strips′ : List ℕ} → Receives m s answer strips r m′ answer′ strips′
+    → 554 ≤ length answer → 6144 ≤ length strips → Meets (outcome m (full s)) m answer strips r m′ answer′ strips′
+met {m} {s} {answer} {strips} {r} {m′} {answer′} {strips′} p a b =
+    subst (λ (o : Outcome). Meets o m answer strips r m′ answer′ strips′)
+    (room-enough m (record { bytes = s; answer-room = length answer; strip-room = length strips }) a b)
+    (p .meets)
+
+-- The answer lies inside its buffer, and is what the outcome says.
+pub answer-inside : {o : Outcome} {m answer strips : List ℕ} {r : Answered} {m′ answer′ strips′ : List ℕ} → Meets o m answer strips r m′ answer′ strips′
+    → r .answer ≤ length answer′
+answer-inside {o} {answer = answer} {r = r} {answer′ = answer′} p = front-fits (o .answer) answer answer′ (r .answer) (p .answers) (p .answer-bytes)
+
+pub answer-taken : {o : Outcome} {m answer strips : List ℕ} {r : Answered} {m′ answer′ strips′ : List ℕ} → Meets o m answer strips r m′ answer′ strips′
+    → take (r .answer) answer′ ≡ o .answer
+answer-taken {o} {answer = answer} {r = r} {answer′ = answer′} p =
+    ap (λ (n : ℕ). take n answer′) (p .answers)
+    ∙ ap (λ (l : List ℕ). take (length (o .answer)) l) (p .answer-bytes)
+    ∙ take-append-seam (o .answer) (drop (length (o .answer)) answer)
+
+-- Number 3: no line.
+pub waits : {m s answer strips : List ℕ} {r : Answered} {m′ answer′ strips′ : List ℕ} (text : List ℕ) → Meets (outcome m (full s)) m answer strips r m′ answer′ strips′
+    → r .number ≡ 3 → Turns m s text (record { size = 0; consumed = r .consumed }) m′ text
+waits {m} {s} text p e =
+    let o : Outcome = outcome m (full s) in
+    let none : [] ≡ line-of o = sym (no-line o (sym (p .gives) ∙ e)) in
+    record {
+      size = ap length none;
+      consumed = p .consumes;
+      state = p .leaves;
+      line = ap (λ (l : List ℕ). l ++ drop (length l) text) none;
+    }
+
+-- Every line has its room.
+pub longest-line : (m s : List ℕ) → length (line (outcome m (full s) .number) (outcome m (full s) .answer)) ≤ line-size
+longest-line m s =
+    let o : Outcome = outcome m (full s) in
+    omega (arith, length-line (o .number) (o .answer), most-digits (o .number), answer-fits m (full s))
+
+lined-there : (room number : ℕ) (answer : List ℕ) → length (line number answer) ≤ room → lined room number answer ≡ Written (length (line number answer))
+unfolding lined
+lined-there room number answer h = rw (le-ltb room (length (line number answer)) h)
+
+size-there : (n k : ℕ) → Written n ≡ Written k → n ≡ k
+size-there n k e = ap size-of e
+  where
+    size-of : Lined → ℕ
+    size-of Short = 0
+    size-of (Written i) = i
+
+short-never : (k : ℕ) → Short ≡ Written k → ⊥
+short-never k e = subst there (sym e) tt
+  where
+    there : Lined → Type 0
+    there Short = ⊥
+    there (Written i) = Unit {0}
+
+-- Another number: its line.
+pub answered : (s : List ℕ) {m answer strips : List ℕ} {r : Answered} {m′ answer′ strips′ : List ℕ} {text text′ : List ℕ} {l : Lined}
+    → Meets (outcome m (full s)) m answer strips r m′ answer′ strips′ → line-size ≤ length text
+    → Writes text (r .number) (take (r .answer) answer′) l text′ → l ≡ Written (length (line (outcome m (full s) .number) (outcome m (full s) .answer)))
+answered s {m} {r = r} {answer′ = answer′} {text = text} p h w =
+    let o : Outcome = outcome m (full s) in
+    w .answered
+    ∙ ap (λ (n : ℕ). lined (length text) n (take (r .answer) answer′)) (p .gives)
+    ∙ ap (λ (a : List ℕ). lined (length text) (o .number) a) (answer-taken p)
+    ∙ lined-there (length text) (o .number) (o .answer) (omega (arith, longest-line m s))
+
+pub never-short : (s : List ℕ) {m answer strips : List ℕ} {r : Answered} {m′ answer′ strips′ : List ℕ} {text text′ : List ℕ} {l : Lined} {A : Type 0}
+    → Meets (outcome m (full s)) m answer strips r m′ answer′ strips′ → line-size ≤ length text
+    → Writes text (r .number) (take (r .answer) answer′) l text′ → l ≡ Short → A
+never-short s p h w e = absurd (short-never _ (sym e ∙ answered s p h w))
+
+pub turns : {m s answer strips : List ℕ} {r : Answered} {m′ answer′ strips′ : List ℕ} {text text′ : List ℕ} {l : Lined} (n : ℕ)
+    → Meets (outcome m (full s)) m answer strips r m′ answer′ strips′ → line-size ≤ length text
+    → Writes text (r .number) (take (r .answer) answer′) l text′ → (r .number ≡ 3 → ⊥) → l ≡ Written n
+    → Turns m s text (record { size = n; consumed = r .consumed }) m′ text′
+turns {m} {s} {r = r} {answer′ = answer′} {text = text} {text′ = text′} n p h w z e =
+    let o : Outcome = outcome m (full s) in
+    let its : line (o .number) (o .answer) ≡ line-of o = sym (a-line o (λ t. z (p .gives ∙ t))) in
+    let same : line (r .number) (take (r .answer) answer′) ≡ line-of o =
+    ap (λ (k : ℕ). line k (take (r .answer) answer′)) (p .gives) ∙ ap (λ (a : List ℕ). line (o .number) a) (answer-taken p) ∙ its in
+    record {
+      size = size-there n _ (sym e ∙ answered s p h w) ∙ ap length its;
+      consumed = p .consumes;
+      state = p .leaves;
+      line =
+          w .buffer
+          ∙ ap (λ (q : Lined). bytes-of q (r .number) (take (r .answer) answer′) ++ drop (length (bytes-of q (r .number) (take (r .answer) answer′))) text) e
+          ∙ ap (λ (x : List ℕ). x ++ drop (length x) text) same;
+    }
+
+-- ---- The walk.
+-- A place that was walked to, and the state there.
+pub record At (s m : List ℕ) (place : ℕ) : Type 0 where
+  pub calls : List Call
+  pub walked : Walks s calls place
+  pub state : m ≡ after-all start-state calls
+
+pub at-start : (s m : List ℕ) → m ≡ start-state → At s m 0
+at-start s m e = record { calls = []; walked = begins; state = e }
+
+after-snoc : (m : List ℕ) (calls : List Call) (c : Call) → after-all m (calls ++ (c ∷ [])) ≡ after (after-all m calls) c
+after-snoc m [] c = refl
+after-snoc m (x ∷ calls) c = after-snoc (after m x) calls c
+
+-- No line is number 3, and only that.
+waiting : (o : Outcome) → length (line-of o) ≡ 0 → o .number ≡ 3
+waiting o e = go (eqb (o .number) 3) refl
+  where
+    go : (t : Bool) → eqb (o .number) 3 ≡ t → o .number ≡ 3
+    go true h = eqb-true (o .number) 3 h
+    go false h =
+        let n : length (line (o .number) (o .answer)) ≡ 0 = rw h at e in
+        absurd (omega (arith, length-line (o .number) (o .answer)))
+
+-- The outcome of the next call, in the state that was walked to.
+next-there : {s m : List ℕ} {place : ℕ} (a : At s m place) → outcome m (full (drop place s)) ≡ next s (a .calls) place
+next-there {s} {place = place} a = ap (λ (l : List ℕ). outcome l (full (drop place s))) (a .state)
+
+heard : {s m text m′ text′ : List ℕ} {place : ℕ} {r : Turn} (a : At s m place) → Turns m (drop place s) text r m′ text′ → (r .size ≡ 0 → ⊥)
+    → next s (a .calls) place .number ≡ 3 → ⊥
+heard {s} {m} {place = place} {r = r} a t z e =
+    let o : Outcome = outcome m (full (drop place s)) in
+    let three : o .number ≡ 3 = ap (λ (x : Outcome). x .number) (next-there a) ∙ e in
+    z (t .size ∙ ap length (no-line o three))
+
+pub goes : {s m text m′ text′ : List ℕ} {place : ℕ} {r : Turn} → At s m place → Turns m (drop place s) text r m′ text′ → place < length s → (r .size ≡ 0 → ⊥)
+    → At s m′ (place + r .consumed)
+goes {s} {m} {m′ = m′} {place = place} {r = r} a t h z =
+    let took : r .consumed ≡ next s (a .calls) place .consumed = t .consumed ∙ ap (λ (x : Outcome). x .consumed) (next-there a) in
+    let call : Call = hand-in (full (drop place s)) in
+    record {
+      calls = a .calls ++ (call ∷ []);
+      walked = subst (λ (n : ℕ). Walks s (a .calls ++ (call ∷ [])) (place + n)) (sym took) (goes-on (a .calls) place (a .walked) h (heard a t z));
+      state = t .state ∙ ap (λ (l : List ℕ). after l call) (a .state) ∙ sym (after-snoc start-state (a .calls) call);
+    }
+
+stays : (o : Outcome) (m : List ℕ) → o .number ≡ 3 → kept o m ≡ m
+stays o m e = rw (ne-eqb (o .number) 0 (λ z. omega arith))
+
+pub stops : {s m text m′ text′ : List ℕ} {place : ℕ} {r : Turn} → At s m place → Turns m (drop place s) text r m′ text′ → r .size ≡ 0
+    → Runs s (record { place = place; written = true }) m′
+stops {s} {m} {place = place} {r = r} a t z =
+    let o : Outcome = outcome m (full (drop place s)) in
+    let three : o .number ≡ 3 = waiting o (sym (t .size) ∙ z) in
+    record {
+      calls = a .calls;
+      walked = a .walked;
+      state = t .state ∙ stays o m three ∙ a .state;
+      ended = λ _. inr (sym (ap (λ (x : Outcome). x .number) (next-there a)) ∙ three);
+    }
+
+pub fails : {s m : List ℕ} {place : ℕ} → At s m place → Runs s (record { place = place; written = false }) m
+fails a = record { calls = a .calls; walked = a .walked; state = a .state; ended = λ e. absurd (false≢true e) }
+
+-- A call that has a line consumes something.
+pub moves : {s m text m′ text′ : List ℕ} {place : ℕ} {r : Turn} → At s m place → Turns m (drop place s) text r m′ text′ → place < length s → (r .size ≡ 0 → ⊥)
+    → 1 ≤ r .consumed
+moves {s} {place = place} a t h z =
+    subst (λ (n : ℕ). 1 ≤ n) (sym (t .consumed ∙ ap (λ (x : Outcome). x .consumed) (next-there a))) (next-takes s (a .calls) place h (heard a t z))
+
+pub ends : {s m : List ℕ} {place : ℕ} → At s m place → length s ≤ place → Runs s (record { place = place; written = true }) m
+ends a h = record { calls = a .calls; walked = a .walked; state = a .state; ended = λ _. inl h }
+
+-- The bytes that are left, as they are lent.
+pub rest-lent : (place : ℕ) (s : List ℕ) → midOf place (length s - place) s ≡ drop place s
+rest-lent place s = take-all (length s - place) (drop place s) (simp length-drop (omega arith))
+
+-- What a line leaves of its buffer, and what a call consumes, lie inside.
+pub line-inside : {m s text m′ text′ : List ℕ} {r : Turn} → Turns m s text r m′ text′ → r .size ≤ length text′
+line-inside {m} {s} {text} {text′ = text′} {r = r} t = front-fits (line-of (outcome m (full s))) text text′ (r .size) (t .size) (t .line)
+
+pub consumed-inside : (s : List ℕ) (place : ℕ) {m text m′ text′ : List ℕ} {r : Turn} → Turns m (drop place s) text r m′ text′ → place ≤ length s → place + r .consumed ≤ length s
+consumed-inside s place {m} t h = omega (arith, t .consumed, consumes-handed-in m (full (drop place s)), length-drop place s)

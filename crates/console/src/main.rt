@@ -1,89 +1,109 @@
 // The console of document 01: a fresh printer of type 1 is fed standard input, and each call is a line, but for one that waits for more.
 use line::Lined;
 use line::write_line;
+use printer::answer::ANSWER;
+use printer::answer::STRIPS;
 use printer::call::fresh;
 use printer::clock::Clock;
+use printer::clock::Date;
 use printer::receive::receive;
-use printer::state::Printer;
+use printer::state::STATE;
 ghost use Prim.Native.Nat.{_≤_};
 ghost use lib.ListN.{length};
+ghost use mathlib.Core.Path.{_≡_};
+ghost use Rattle.console.specs.Console.{line-size, Runs, start-state, Starts, Turns};
+
+// A number of up to three digits, a space, the longest answer in hex, a newline.
+const LINE: usize = 1113;
 
 // A fresh type 1 at 29 February 2024 23:59:58.
-fn start() -> Printer {
-    let made = fresh(
+fn start(state: &mut [u8])
+    ensures { λ _. ⌜ Starts (now (state .entry)) (now (state .exit)) ⌝ }
+{
+    fresh(
+        state,
         1,
         Clock {
             second: 58,
             minute: 59,
             hour: 23,
-            day: 29,
-            month: 2,
-            year: 24,
+            date: Date {
+                day: 29,
+                month: 2,
+                year: 24,
+            },
         },
     );
-    let p = made.printer;
-    p
 }
 
-// Prints the line of a call. An answer has 554 bytes at most, so that 1,113 hold every line.
-fn print(number: u8, answer: &[u8]) {
-    let mut text = [0; 1113];
-    let lined = write_line(&mut text, number, answer);
-    match lined {
-        Lined::Short => {}
-        Lined::Written(n) => {
-            io::write_all(1, &text[..n]);
-        }
-    }
-}
-
-// What a call did: whether it was the last, how many bytes it consumed, and the state behind it.
+// What a call did: how long its line is, 0 where it has none, and how many bytes it consumed.
 struct Turn {
-    last: bool,
+    size: usize,
     consumed: usize,
-    printer: Printer,
 }
 
-// A call on the bytes that are left, and its line; number 3 isn't printed.
-fn call(p: Printer, s: &[u8]) -> Turn
-    ensures { λ r. ⌜ r .consumed ≤ length (now (s .entry)) ⌝ }
+// A call on the bytes that are left, and its line over the text's front; number 3 has none.
+fn call(state: &mut [u8], s: &[u8], text: &mut [u8]) -> Turn
+    requires { ⌜ line-size ≤ length (now text) ⌝ }
+    ensures { λ r. ⌜ Turns (now (state .entry)) (now (s .entry)) (now (text .entry)) r (now (state .exit)) (now (text .exit)) ⌝ }
 {
-    let mut answer = [0; 554];
-    let mut strips = [0; 6144];
-    let done = receive(p, s, &mut answer, &mut strips);
-    let n = done.answer;
-    if done.number != 3 {
-        print(done.number, &answer[..n]);
+    let mut answer = [0; ANSWER];
+    let mut strips = [0; STRIPS];
+    let done = receive(state, s, &mut answer, &mut strips);
+    let consumed = done.consumed;
+    if done.number == 3 {
+        return Turn { size: 0, consumed };
     }
-    let q = done.printer;
-    Turn {
-        last: done.number == 3,
-        consumed: done.consumed,
-        printer: q,
+    let n = done.answer;
+    let lined = write_line(text, done.number, &answer[..n]);
+    match lined {
+        Lined::Short => Turn { size: 0, consumed },
+        Lined::Written(size) => Turn { size, consumed },
     }
 }
 
-// Calls until the box waits for more, or no bytes are left.
-fn run(s: &[u8]) {
-    let mut p = start();
+// The place in the bytes that was come to, and whether every line was written.
+struct Ran {
+    place: usize,
+    written: bool,
+}
+
+// Calls until the box waits for more or no bytes are left. A failed write ends it too: the program then ends without the rest of its lines, and with status 0, since a `main` has no other.
+fn run(state: &mut [u8], s: &[u8]) -> Ran
+    requires { ⌜ now state ≡ start-state ⌝ }
+    ensures { λ r. ⌜ Runs (now (s .entry)) r (now (state .exit)) ⌝ }
+{
+    let mut space = [0; LINE];
+    let text: &mut [u8] = &mut space;
     let mut at = 0;
     while at < s.len() {
-        let turn = call(p, &s[at..]);
-        if turn.last {
-            return;
+        let turn = call(state, &s[at..], text);
+        let size = turn.size;
+        if size == 0 {
+            return Ran {
+                place: at,
+                written: true,
+            };
         }
         let consumed = turn.consumed;
-        if consumed == 0 {
-            return;
-        }
         at += consumed;
-        let q = turn.printer;
-        p = q;
+        if !io::write_all(1, &text[..size]) {
+            return Ran {
+                place: at,
+                written: false,
+            };
+        }
+    }
+    Ran {
+        place: at,
+        written: true,
     }
 }
 
 fn main() {
     let mut input = [0; 8192];
     let n = io::read_full(0, &mut input);
-    run(&input[..n]);
+    let mut state = [0; STATE];
+    start(&mut state);
+    run(&mut state, &input[..n]);
 }

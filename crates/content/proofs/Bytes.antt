@@ -6,9 +6,8 @@ use native.Mathlib.Omega.{arith}
 use borrow.Author.Tests.{eqb-true, ne-eqb, lt-leb, le-leb}
 use lib.Dec.{eqb}
 use Rattle.frame.specs.Ground.{pick}
-use Rattle.frame.proofs.Laws.{never, within-true, pick-case}
-use Rattle.content.specs.Byte.{is-character, is-expansion, kind-of, code-of}
-use Rattle.content.specs.Grammar.{is-code}
+use Rattle.frame.proofs.Ground.{never, within-true, pick-case}
+use Rattle.content.specs.Byte.{is-character, is-expansion, kind-of, code-of, is-code}
 use Rattle.content.specs.declared.byte.Kind.{Kind}
 use Rattle.content.specs.declared.byte.Kind.the-variants as kind
 

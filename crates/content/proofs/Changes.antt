@@ -10,42 +10,39 @@ use lib.ListN.{length}
 use Rattle.frame.specs.Ground.{pick}
 use Rattle.content.specs.Byte.{is-character, is-count, kind-of, code-of}
 use Rattle.content.specs.Machine as machine
-use Rattle.content.specs.Machine.{step, in-code}
-use Rattle.content.specs.Content.{read, verdict, onward}
+use Rattle.content.specs.Machine.{Mode, Reading, Done, Bad, step, in-code}
+use Rattle.content.specs.Content.{read, onward}
 use Rattle.content.specs.Position.{marks, mark-of, mark-in, is-position, is-field-position, field-positions-from}
 use Rattle.content.specs.Grammar.{Item, character, tabulation, counter, field, date, blank, item-outline, block-outline}
-use Rattle.content.specs.Tree.{Rest, rest, before, tree-of, with-item, with-letter, with-block, with-line, before-in-block}
+use Rattle.content.specs.Tree.{Rest, rest, before, with-item, with-letter, with-block, with-line, before-in-block}
 use Rattle.content.specs.Laws.{CharactersAreNoStructure}
-use Rattle.content.specs.ChangeLaws.{Changed, none, kept, changed, ChangeKeeps}
+use Rattle.content.specs.ChangeLaws.{Changed, none, kept, changed}
 use Rattle.content.specs.declared.byte.Kind.{Kind}
 use Rattle.content.specs.declared.byte.Kind.the-variants as kind
 use Rattle.content.specs.declared.byte.Coded.{Coded}
 use Rattle.content.specs.declared.byte.Coded.the-variants as coded
-use Rattle.content.specs.declared.machine.Place.the-variants as place
-use Rattle.content.specs.declared.machine.Seen.{Seen}
-use Rattle.content.specs.declared.machine.Spot.the-variants as spot
-use Rattle.content.specs.declared.machine.Mode.{Mode}
-use Rattle.content.specs.declared.machine.Mode.the-variants.{Reading, Done, Bad}
+use Rattle.content.specs.declared.item.Place.the-variants as place
+use Rattle.content.specs.declared.item.Seen.{Seen}
 use Rattle.content.specs.declared.position.Mark.the-variants.{Structure}
-use Rattle.frame.proofs.Laws.{never}
+use Rattle.frame.proofs.Ground.{never}
 use Rattle.content.proofs.Bytes.{kind-of-character, character-is-no-mark}
 
 -- The modes in which a character is a character position.
 data Holds : Mode → Type 0 where
-  in-block : {seen : Seen} → Holds (Reading (spot.Inside place.Block) seen)
-  in-field : {seen : Seen} → Holds (Reading (spot.Inside place.Field) seen)
+  in-block : {seen : Seen} → Holds (Reading (machine.Inside place.Block) seen)
+  in-field : {seen : Seen} → Holds (Reading (machine.Inside place.Field) seen)
 
 mode-holds : (m : Mode) → is-position (mark-in m) ≡ true → Holds m
-mode-holds (Reading spot.Line seen) e = never e
-mode-holds (Reading spot.Expansion seen) e = never e
-mode-holds (Reading spot.Font seen) e = never e
-mode-holds (Reading (spot.Inside place.Block) seen) e = in-block
-mode-holds (Reading (spot.Inside place.Field) seen) e = in-field
-mode-holds (Reading (spot.Inside place.Date) seen) e = never e
-mode-holds (Reading spot.TabulationCount seen) e = never e
-mode-holds (Reading spot.TabulationEnd seen) e = never e
-mode-holds (Reading spot.CounterNumber seen) e = never e
-mode-holds (Reading spot.CounterEnd seen) e = never e
+mode-holds (Reading (machine.Inside place.Content) seen) e = never e
+mode-holds (Reading (machine.Inside place.Line) seen) e = never e
+mode-holds (Reading (machine.Inside place.Block) seen) e = in-block
+mode-holds (Reading (machine.Inside place.Field) seen) e = in-field
+mode-holds (Reading (machine.Inside place.Date) seen) e = never e
+mode-holds (Reading (machine.Font x) seen) e = never e
+mode-holds (Reading machine.TabulationCount seen) e = never e
+mode-holds (Reading (machine.TabulationEnd n) seen) e = never e
+mode-holds (Reading machine.CounterNumber seen) e = never e
+mode-holds (Reading machine.CounterEnd seen) e = never e
 mode-holds Done e = never e
 mode-holds Bad e = never e
 
@@ -65,55 +62,55 @@ position m b e = go (is-character b) refl e
 -- All characters lead on alike from such a mode.
 step-same : {m : Mode} (b c : ℕ) → Holds m → is-character b ≡ true → is-character c ≡ true → step m c ≡ step m b
 step-same b c in-block p q = rw (kind-of-character b p, kind-of-character c q)
-step-same b c in-field p q = rw (kind-of-character b p, kind-of-character c q)
+step-same b c in-field p q = rw (character-is-no-mark b 0x12 p (omega arith), character-is-no-mark c 0x12 q (omega arith), p, q)
 
-pub characters-are-no-structure : CharactersAreNoStructure
+pub no-structure : CharactersAreNoStructure
 unfolding mark-of
-characters-are-no-structure m b c p q =
+no-structure m b c p q =
     let at = position m b p in
     (step-same b c (at .holds) (at .fits) q, rw (at .fits, q))
 
-length-same : {m : Mode} {s t : List ℕ} → Changed m s t → length t ≡ length s
+pub length-same : {m : Mode} {s t : List ℕ} → Changed m s t → length t ≡ length s
 length-same none = refl
 length-same (kept h) = ap suc (length-same h)
 length-same (changed p q h) = ap suc (length-same h)
 
-read-same : {m : Mode} {s t : List ℕ} (i : ℕ) → Changed m s t → read i m t ≡ read i m s
+pub read-same : {m : Mode} {s t : List ℕ} (i : ℕ) → Changed m s t → read i m t ≡ read i m s
 read-same i none = refl
 read-same i (kept {m = m} {b = b} h) = ap (onward i (step m b)) (read-same (i + 1) h)
 read-same i (changed {m = m} {b = b} {c = c} p q h) =
-    let same = characters-are-no-structure m b c p q in
+    let same = no-structure m b c p q in
     rw (same .0, read-same (i + 1) h)
 
-marks-same : {m : Mode} {s t : List ℕ} → Changed m s t → marks m t ≡ marks m s
+pub marks-same : {m : Mode} {s t : List ℕ} → Changed m s t → marks m t ≡ marks m s
 marks-same none = refl
 marks-same (kept {m = m} {b = b} h) = ap (_∷_ (mark-of m b)) (marks-same h)
 marks-same (changed {m = m} {b = b} {c = c} p q h) =
-    let same = characters-are-no-structure m b c p q in
+    let same = no-structure m b c p q in
     rw (same .0, same .1, marks-same h)
 
-positions-same : {m : Mode} {s t : List ℕ} → Changed m s t → field-positions-from m t ≡ field-positions-from m s
+pub positions-same : {m : Mode} {s t : List ℕ} → Changed m s t → field-positions-from m t ≡ field-positions-from m s
 positions-same none = refl
 positions-same (kept {m = m} {b = b} h) = rw (positions-same h)
 positions-same (changed {m = m} {b = b} {c = c} p q h) =
-    let same = characters-are-no-structure m b c p q in
+    let same = no-structure m b c p q in
     rw (same .0, same .1, positions-same h)
 
 -- Inside a field the letters may differ, elsewhere they may not.
-abbrev in-a-field : Mode → Bool
+abbrev pub in-a-field : Mode → Bool
 in-a-field m = is-field-position (mark-in m)
 
-abbrev letters-outline : Bool → List ℕ → List ℕ
+abbrev pub letters-outline : Bool → List ℕ → List ℕ
 letters-outline true cs = blank cs
 letters-outline false cs = cs
 
 -- What two lists of bytes hold from a mode on has the same outline.
-record Alike (m : Mode) (q r : Rest) : Type 0 where
-  letters : letters-outline (in-a-field m) (q .letters) ≡ letters-outline (in-a-field m) (r .letters)
-  items : map item-outline (q .items) ≡ map item-outline (r .items)
-  font : q .font ≡ r .font
-  blocks : map block-outline (q .blocks) ≡ map block-outline (r .blocks)
-  lines : map (map block-outline) (q .lines) ≡ map (map block-outline) (r .lines)
+pub record Alike (m : Mode) (q r : Rest) : Type 0 where
+  pub letters : letters-outline (in-a-field m) (q .letters) ≡ letters-outline (in-a-field m) (r .letters)
+  pub items : map item-outline (q .items) ≡ map item-outline (r .items)
+  pub font : q .font ≡ r .font
+  pub blocks : map block-outline (q .blocks) ≡ map block-outline (r .blocks)
+  pub lines : map (map block-outline) (q .lines) ≡ map (map block-outline) (r .lines)
 
 blank-of-outline : (x : Bool) (cs ds : List ℕ) → letters-outline x cs ≡ letters-outline x ds → blank cs ≡ blank ds
 blank-of-outline true cs ds e = e
@@ -145,8 +142,8 @@ module _ {m n : Mode} {q r : Rest} (h : Alike m q r) where
   line-alike = record { letters = refl; items = refl; font = refl; blocks = refl; lines = cc }
 
 -- The same byte before what is alike, in a block by its kind, and then in any mode.
-kind-alike : (k : Kind) (b : ℕ) (seen : Seen) {q r : Rest} → Alike (machine.in-block k seen) q r
-    → Alike (Reading (spot.Inside place.Block) seen) (before-in-block k b q) (before-in-block k b r)
+kind-alike : (k : Kind) (b : ℕ) (seen : Seen) {q r : Rest} → Alike (machine.in-block k b seen) q r
+    → Alike (Reading (machine.Inside place.Block) seen) (before-in-block k b q) (before-in-block k b r)
 kind-alike kind.Line b seen h = line-alike h
 kind-alike kind.End b seen h = with-letters h (h .letters)
 kind-alike kind.Field b seen {q} {r} h =
@@ -164,32 +161,32 @@ code-alike (coded.Code c) seen h = h .letters
 code-alike coded.Not seen h = h .letters
 
 before-alike : (m : Mode) (b : ℕ) {q r : Rest} → Alike (step m b) q r → Alike m (before m b q) (before m b r)
-before-alike (Reading spot.Line seen) b h = line-alike h
-before-alike (Reading spot.Expansion seen) b h = block-alike h b
-before-alike (Reading spot.Font seen) b {q} {r} h =
-    let e = exact-of-outline (is-count b) (Reading (spot.Inside place.Block) seen) (q .letters) (r .letters) refl (h .letters) in
+before-alike (Reading (machine.Inside place.Content) seen) b h = line-alike h
+before-alike (Reading (machine.Inside place.Line) seen) b h = block-alike h b
+before-alike (Reading (machine.Font x) seen) b {q} {r} h =
+    let e = exact-of-outline (is-count b) (Reading (machine.Inside place.Block) seen) (q .letters) (r .letters) refl (h .letters) in
     record { letters = e; items = h .items; font = refl; blocks = h .blocks; lines = h .lines }
-before-alike (Reading (spot.Inside place.Block) seen) b h = kind-alike (kind-of b) b seen h
-before-alike (Reading (spot.Inside place.Field) seen) b {q} {r} h = go (eqb b 0x12)
+before-alike (Reading (machine.Inside place.Block) seen) b h = kind-alike (kind-of b) b seen h
+before-alike (Reading (machine.Inside place.Field) seen) b {q} {r} h = go (eqb b 0x12)
   where
     e : blank (q .letters) ≡ blank (r .letters)
-    e = blank-of-outline (in-a-field (machine.in-field (kind-of b) seen)) (q .letters) (r .letters) (h .letters)
+    e = blank-of-outline (in-a-field (machine.in-field b seen)) (q .letters) (r .letters) (h .letters)
 
-    go : (x : Bool) → Alike (Reading (spot.Inside place.Field) seen) (pick x q (with-letter b q)) (pick x r (with-letter b r))
+    go : (x : Bool) → Alike (Reading (machine.Inside place.Field) seen) (pick x q (with-letter b q)) (pick x r (with-letter b r))
     go true = with-letters h e
     go false = letter-alike h b b (ap (_∷_ 0x20) e)
-before-alike (Reading (spot.Inside place.Date) seen) b {q} {r} h = go (eqb b 0x1B) h
+before-alike (Reading (machine.Inside place.Date) seen) b {q} {r} h = go (eqb b 0x1B) h
   where
-    go : (x : Bool) → Alike (pick x (Reading (spot.Inside place.Block) seen) (in-code (code-of b) seen)) q r
-        → Alike (Reading (spot.Inside place.Date) seen) (pick x q (with-letter b q)) (pick x r (with-letter b r))
+    go : (x : Bool) → Alike (pick x (Reading (machine.Inside place.Block) seen) (in-code (code-of b) seen)) q r
+        → Alike (Reading (machine.Inside place.Date) seen) (pick x q (with-letter b q)) (pick x r (with-letter b r))
     go true h = with-letters h (h .letters)
     go false h = letter-alike h b b (ap (_∷_ b) (code-alike (code-of b) seen h))
-before-alike (Reading spot.TabulationCount seen) b h = item-alike h (tabulation b) (tabulation b) refl
-before-alike (Reading spot.TabulationEnd seen) b {q} {r} h =
-    with-letters h (exact-of-outline (eqb b 0x1E) (Reading (spot.Inside place.Block) seen) (q .letters) (r .letters) refl (h .letters))
-before-alike (Reading spot.CounterNumber seen) b h = item-alike h (counter b) (counter b) refl
-before-alike (Reading spot.CounterEnd seen) b {q} {r} h =
-    with-letters h (exact-of-outline (eqb b 0x1C) (Reading (spot.Inside place.Block) seen) (q .letters) (r .letters) refl (h .letters))
+before-alike (Reading machine.TabulationCount seen) b h = item-alike h (tabulation b) (tabulation b) refl
+before-alike (Reading (machine.TabulationEnd n) seen) b {q} {r} h =
+    with-letters h (exact-of-outline (eqb b 0x1E) (Reading (machine.Inside place.Block) seen) (q .letters) (r .letters) refl (h .letters))
+before-alike (Reading machine.CounterNumber seen) b h = item-alike h (counter b) (counter b) refl
+before-alike (Reading machine.CounterEnd seen) b {q} {r} h =
+    with-letters h (exact-of-outline (eqb b 0x1C) (Reading (machine.Inside place.Block) seen) (q .letters) (r .letters) refl (h .letters))
 before-alike Done b h = with-letters h (h .letters)
 before-alike Bad b h = with-letters h (h .letters)
 
@@ -201,10 +198,10 @@ character-alike : {m : Mode} (b c : ℕ) (r : Rest) → Holds m → is-character
     → Alike m (before m c r) (before m b r)
 character-alike b c r (in-block {seen = seen}) p q =
     rw (kind-of-character b p, kind-of-character c q)
-    (item-alike (alike-refl {m = Reading (spot.Inside place.Block) seen} {r = r}) (character c) (character b) refl)
+    (item-alike (alike-refl {m = Reading (machine.Inside place.Block) seen} {r = r}) (character c) (character b) refl)
 character-alike b c r (in-field {seen = seen}) p q =
     rw (character-is-no-mark b 0x12 p (omega arith), character-is-no-mark c 0x12 q (omega arith))
-    (letter-alike (alike-refl {m = Reading (spot.Inside place.Field) seen} {r = r}) c b refl)
+    (letter-alike (alike-refl {m = Reading (machine.Inside place.Field) seen} {r = r}) c b refl)
 
 alike-trans : {m : Mode} {p q r : Rest} → Alike m p q → Alike m q r → Alike m p r
 alike-trans g h =
@@ -216,21 +213,10 @@ alike-trans g h =
       lines = g .lines ∙ h .lines;
     }
 
-rest-alike : {m : Mode} {s t : List ℕ} → Changed m s t → Alike m (rest m t) (rest m s)
+pub rest-alike : {m : Mode} {s t : List ℕ} → Changed m s t → Alike m (rest m t) (rest m s)
 rest-alike none = alike-refl
 rest-alike (kept {m = m} {b = b} h) = before-alike m b (rest-alike h)
 rest-alike (changed {m = m} {b = b} {c = c} {t = t} p q h) =
     let at = position m b p in
-    rw ((characters-are-no-structure m b c p q) .0)
+    rw ((no-structure m b c p q) .0)
     (alike-trans (character-alike b c (rest (step m b) t) (at .holds) (at .fits) q) (before-alike m b (rest-alike h)))
-
-pub change-keeps : ChangeKeeps
-unfolding verdict tree-of
-change-keeps s t h =
-    record {
-      length-kept = length-same h;
-      verdict-kept = read-same 0 h;
-      marks-kept = marks-same h;
-      field-positions-kept = positions-same h;
-      outline-kept = (rest-alike h) .lines;
-    }

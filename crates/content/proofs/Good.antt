@@ -6,7 +6,7 @@ use borrow.Author.Tests.{le-leb, leb-true}
 use lib.ListN.{length}
 use Rattle.frame.specs.Ground.{within}
 use Rattle.content.specs.Grammar.{Tree, good-lines, good-tree, lines-fields}
-use Rattle.frame.proofs.Laws.{both-true, true-both, within-true, true-within}
+use Rattle.frame.proofs.Ground.{both-true, true-both, within-true, true-within}
 
 pub record GoodTree (t : Tree) : Type 0 where
   pub some-lines : 1 ≤ length t

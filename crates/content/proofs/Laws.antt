@@ -1,26 +1,40 @@
--- What the functions' proofs of this crate share.
-use Prim.Native.Nat.{ℕ, suc, _+_, _<_}
-use mathlib.Core.Bool.{Bool}
-use mathlib.Core.List.{List, [], _∷_}
-use mathlib.Core.Path.{_≡_, refl, ap}
-use native.Mathlib.Omega.{arith}
-use lib.ListN.{length, getD, drop}
-use Rattle.frame.specs.Ground.{pick}
-use Rattle.frame.proofs.Laws.{drop-next}
-use Rattle.content.specs.Machine.{step}
-use Rattle.content.specs.Position.{mark-of, marks, is-field-position, field-positions-from}
-use Rattle.content.specs.declared.machine.Mode.{Mode}
-use Rattle.content.specs.declared.position.Mark.{Mark}
+-- What is read as good is a good tree, written out. Every good tree, written out, is read as good and read back, and so no two good trees
+-- are written alike: each piece puts just itself before the rest that follows it.
+use mathlib.Core.List.{[]}
+use mathlib.Core.Path.{ap, _∙_, sym}
+use Rattle.content.specs.Machine.{start}
+use Rattle.content.specs.Grammar.{encode}
+use Rattle.content.specs.Tree.{Rest, tree-of}
+use Rattle.content.specs.Laws.{Correct, Complete, Unambiguous, ExactlyOneTree, ReadBack, CharactersAreNoStructure}
+use Rattle.content.specs.declared.strip.Values.{Values}
+use Rattle.content.proofs.Changes.{no-structure}
+use Rattle.content.proofs.Good.{good-tree-tells}
+use Rattle.content.proofs.Run.{run-verdict}
+use Rattle.content.proofs.Pieces.{rest-befores, tree-piece}
+use Rattle.content.proofs.Trees.{reads-a-tree}
 
-pub length-marks : (m : Mode) (s : List ℕ) → length (marks m s) ≡ length s
-length-marks m [] = refl
-length-marks m (b ∷ s) = ap suc (length-marks (step m b) s)
+-- Verdict and tree don't go by what items stand for: any values will do.
+pub no-values : Values
+no-values = record { digits = []; entries = [] }
 
--- One more byte, counted where it is a field position: the count and the field positions of what is left make up the same.
-pub counted-on : (s : List ℕ) (i : ℕ) (m : Mode) (n : ℕ) {mark : Mark} {t : Bool} {m′ : Mode} {n′ total : ℕ} → i < length s → mark ≡ mark-of m (getD s i 0)
-    → t ≡ is-field-position mark → m′ ≡ step m (getD s i 0) → n′ ≡ n + pick t 1 0 → n + field-positions-from m (drop i s) ≡ total
-    → n′ + field-positions-from m′ (drop (i + 1) s) ≡ total
-counted-on s i m n {t = t} {m′ = m′} h p q r e f =
-    let here : field-positions-from m (drop i s) ≡ pick t 1 0 + field-positions-from m′ (drop (i + 1) s) =
-    rw (q, p, r) (ap (field-positions-from m) (drop-next s i h)) in
-    omega arith
+pub correct : Correct
+correct = reads-a-tree
+
+pub complete : Complete
+complete t g = run-verdict (encode t) ((tree-piece no-values t (good-tree-tells t g)) .leads)
+
+pub read-back : ReadBack
+unfolding tree-of
+read-back t g =
+    ap (λ (r : Rest). r .lines) (rest-befores start (encode t) ∙ (tree-piece no-values t (good-tree-tells t g)) .builds)
+
+pub unambiguous : Unambiguous
+unambiguous t u g h e = sym (read-back t g) ∙ ap tree-of e ∙ read-back u h
+
+pub exactly-one-tree : ExactlyOneTree
+exactly-one-tree s e =
+    let c = correct s e in
+    (tree-of s, c .0, c .1, λ u g q. unambiguous u (tree-of s) g (c .0) (q ∙ sym (c .1)))
+
+pub characters-are-no-structure : CharactersAreNoStructure
+characters-are-no-structure = no-structure

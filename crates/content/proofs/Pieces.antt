@@ -1,35 +1,29 @@
 -- What the machine makes of each piece of a good tree, written out: where it leads, what it puts before the rest that follows, and what
 -- it shows in a strip.
 use Prim.Native.Nat.{ℕ, _+_, _≤_, _<_}
-use mathlib.Core.Bool.{Bool, true, false}
+use mathlib.Core.Bool.{true}
 use mathlib.Core.List.{List, [], _∷_, _++_, append-assoc, append-nil, map}
 use mathlib.Core.Path.{_≡_, refl, ap, _∙_, sym}
 use native.Mathlib.Nat.{add-zero, add-assoc}
 use native.Mathlib.Omega.{arith}
 use borrow.Author.Tests.{lt-ltb}
-use lib.Dec.{eqb}
 use lib.ListN.{length}
-use Rattle.frame.specs.Ground.{pick}
-use Rattle.content.specs.Byte.{is-character, is-expansion, is-count, all-characters, kind-of, code-of}
-use Rattle.content.specs.Machine.{start, step, with-line, with-field, in-code}
-use Rattle.content.specs.Strip.{strip-from, shown-by, shown-code, printed, bytes-of, character-of}
-use Rattle.content.specs.Grammar.{Item, Block, Line, Tree, character, tabulation, counter, field, date, item-bytes, items-bytes, block-bytes, blocks-bytes, line-bytes, encode, is-code, all-codes, good-item, good-items, good-block, good-blocks, good-line, good-lines, item-fields, items-fields, blocks-fields, lines-fields, code-text, date-text, stands-for, resolved-items, resolved-block, resolved}
+use Rattle.content.specs.Byte.{is-character, is-expansion, is-count, all-characters, kind-of, code-of, is-code}
+use Rattle.content.specs.Machine as machine
+use Rattle.content.specs.Machine.{Spot, Mode, Reading, Done, start, step, with-line, with-field, in-code}
+use Rattle.content.specs.Strip.{strip-from, shown-by, shown-code, where-good}
+use Rattle.content.specs.Grammar.{Item, Block, Line, Tree, character, tabulation, counter, field, date, item-bytes, items-bytes, block-bytes, blocks-bytes, line-bytes, encode, all-codes, good-item, good-items, good-block, good-blocks, good-line, good-lines, item-fields, items-fields, blocks-fields, lines-fields, code-text, date-text, stands-for, resolved-items, resolved-block, resolved}
 use Rattle.content.specs.Tree.{Rest, nothing, before, with-block, with-line as line-before, rest}
 use Rattle.content.specs.declared.byte.Coded.{Coded}
 use Rattle.content.specs.declared.byte.Coded.the-variants as coded
-use Rattle.content.specs.declared.machine.Place.the-variants as place
-use Rattle.content.specs.declared.machine.Seen.{Seen}
-use Rattle.content.specs.declared.machine.Spot.{Spot}
-use Rattle.content.specs.declared.machine.Spot.the-variants as spot
-use Rattle.content.specs.declared.machine.Mode.{Mode}
-use Rattle.content.specs.declared.machine.Mode.the-variants.{Reading, Done}
+use Rattle.content.specs.declared.item.Place.the-variants as place
+use Rattle.content.specs.declared.item.Seen.{Seen}
 use Rattle.content.specs.declared.strip.Values.{Values}
-use Rattle.content.specs.declared.strip.Shown.the-variants.{Nothing, Byte}
-use Rattle.frame.proofs.Laws.{never, both-true}
-use Rattle.content.proofs.Bytes.{kind-of-character, kind-of-expansion, character-is-no-mark, expansion-is-no-mark, code-is-no-mark}
+use Rattle.frame.proofs.Ground.{never, both-true}
+use Rattle.content.proofs.Bytes.{kind-of-character, kind-of-expansion, character-is-no-mark, code-is-no-mark}
 use Rattle.content.proofs.Good.{GoodTree}
 use Rattle.content.proofs.Resolved.{characters-bytes, items-bytes-append}
-use Rattle.content.proofs.Run.{run}
+use Rattle.content.proofs.Run.{run, run-append, strip-append}
 
 -- What bytes put before the rest that follows them.
 abbrev befores : Mode → List ℕ → Rest → Rest
@@ -42,18 +36,9 @@ pub record Piece (v : Values) (m : Mode) (p : List ℕ) (n : Mode) (r r′ : Res
   pub builds : befores m p r ≡ r′
   pub shows : strip-from v m p ≡ x
 
-run-append : (m : Mode) (p q : List ℕ) → run m (p ++ q) ≡ run (run m p) q
-run-append m [] q = refl
-run-append m (b ∷ p) q = run-append (step m b) p q
-
 befores-append : (m : Mode) (p q : List ℕ) (r : Rest) → befores m (p ++ q) r ≡ befores m p (befores (run m p) q r)
 befores-append m [] q r = refl
 befores-append m (b ∷ p) q r = ap (before m b) (befores-append (step m b) p q r)
-
-pub strip-append :
-    (v : Values) (m : Mode) (p q : List ℕ) → strip-from v m (p ++ q) ≡ strip-from v m p ++ strip-from v (run m p) q
-strip-append v m [] q = refl
-strip-append v m (b ∷ p) q = rw (strip-append v (step m b) p q, append-assoc)
 
 -- Nothing, a byte and a piece, and two pieces in a row.
 module _ {v : Values} where
@@ -62,7 +47,7 @@ module _ {v : Values} where
 
   byte-then :
       {m n o : Mode} {b : ℕ} {q : List ℕ} {r r′ r″ : Rest} {x y : List ℕ} → Piece v n q o r r′ y →
-      step m b ≡ n → before m b r′ ≡ r″ → bytes-of v (shown-by v m b) ++ y ≡ x → Piece v m (b ∷ q) o r r″ x
+      step m b ≡ n → before m b r′ ≡ r″ → where-good n (shown-by v m b) ++ y ≡ x → Piece v m (b ∷ q) o r r″ x
   byte-then h e f g = record { leads = rw e (h .leads); builds = rw (e, h .builds) f; shows = rw (e, h .shows) g }
 
   pub piece-then :
@@ -76,7 +61,7 @@ module _ {v : Values} where
       }
 
 abbrev pub in-block : Seen → Mode
-in-block seen = Reading (spot.Inside place.Block) seen
+in-block seen = Reading (machine.Inside place.Block) seen
 
 -- At a spot, and in a block, with so many lines and fields begun.
 abbrev at : Spot → ℕ → ℕ → Mode
@@ -89,34 +74,29 @@ block-at l f = in-block (record { lines = l; fields = f })
 abbrev pub behind : List ℕ → List Item → List Block → List Line → Rest
 behind cs is bs ls = record { letters = cs; items = is; font = 0; blocks = bs; lines = ls }
 
-in-code-stays : (k : Coded) (seen : Seen) → is-code k ≡ true → in-code k seen ≡ Reading (spot.Inside place.Date) seen
+in-code-stays : (k : Coded) (seen : Seen) → is-code k ≡ true → in-code k seen ≡ Reading (machine.Inside place.Date) seen
 in-code-stays (coded.Code c) seen e = refl
 in-code-stays coded.Not seen e = never e
 
-code-shown : (v : Values) (k : Coded) → bytes-of v (shown-code v k) ≡ code-text v k
-unfolding printed
-code-shown v (coded.Code c) = one (character-of v c) (eqb (character-of v c) 0x00)
-  where
-    one : (b : ℕ) (x : Bool) → bytes-of v (pick x Nothing (Byte b)) ≡ pick x [] (b ∷ [])
-    one b true = refl
-    one b false = refl
+code-shown : (v : Values) (k : Coded) → shown-code v k ≡ code-text v k
+code-shown v (coded.Code c) = refl
 code-shown v coded.Not = refl
 
 module _ (v : Values) (is : List Item) (bs : List Block) (ls : List Line) where
   letters-piece :
       (seen : Seen) (cs : List ℕ) → all-characters cs ≡ true →
-      Piece v (Reading (spot.Inside place.Field) seen) (cs ++ (0x12 ∷ [])) (in-block seen)
+      Piece v (Reading (machine.Inside place.Field) seen) (cs ++ (0x12 ∷ [])) (in-block seen)
       (behind [] is bs ls) (behind cs is bs ls) cs
   unfolding kind-of
   letters-piece seen [] e = byte-then none refl refl refl
   letters-piece seen (c ∷ cs) e =
       let g = both-true (is-character c) (all-characters cs) e in
       let n = character-is-no-mark c 0x12 (g .0) (omega arith) in
-      byte-then (letters-piece seen cs (g .1)) (rw (kind-of-character c (g .0))) (rw n) (rw n)
+      byte-then (letters-piece seen cs (g .1)) (rw (n, g .0)) (rw n) (rw n)
 
   codes-piece :
       (seen : Seen) (cs : List ℕ) → all-codes cs ≡ true →
-      Piece v (Reading (spot.Inside place.Date) seen) (cs ++ (0x1B ∷ [])) (in-block seen)
+      Piece v (Reading (machine.Inside place.Date) seen) (cs ++ (0x1B ∷ [])) (in-block seen)
       (behind [] is bs ls) (behind cs is bs ls) (date-text v cs)
   codes-piece seen [] e = byte-then none refl refl refl
   codes-piece seen (c ∷ cs) e =
@@ -129,8 +109,7 @@ module _ (v : Values) (is : List Item) (bs : List Block) (ls : List Line) where
       Piece v (in-block seen) (c ∷ []) (in-block seen)
       (behind [] is bs ls) (behind [] (character c ∷ is) bs ls) (c ∷ [])
   character-piece seen c g =
-      byte-then none (rw (kind-of-character c g)) (rw (kind-of-character c g))
-      (rw (character-is-no-mark c 0x12 g (omega arith), character-is-no-mark c 0x1B g (omega arith), character-is-no-mark c 0x1C g (omega arith)))
+      byte-then none (rw (kind-of-character c g)) (rw (kind-of-character c g)) (rw (kind-of-character c g))
 
   pub date-piece :
       (seen : Seen) (cs : List ℕ) → all-codes cs ≡ true →
@@ -154,12 +133,12 @@ module _ (v : Values) (is : List Item) (bs : List Block) (ls : List Line) where
 
 -- The two spots at which a block may begin, and the two at which a line may.
 data BeginsBlock : Spot → Type 0 where
-  first : BeginsBlock spot.Expansion
-  next : BeginsBlock (spot.Inside place.Block)
+  first : BeginsBlock (machine.Inside place.Line)
+  next : BeginsBlock (machine.Inside place.Block)
 
 data BeginsLine : Spot → Type 0 where
-  first : BeginsLine spot.Line
-  next : BeginsLine (spot.Inside place.Block)
+  first : BeginsLine (machine.Inside place.Content)
+  next : BeginsLine (machine.Inside place.Block)
 
 module _ (v : Values) where
   items-piece :
@@ -174,11 +153,10 @@ module _ (v : Values) where
 
   expansion-then :
       {s : Spot} {o : Mode} {q y : List ℕ} {r r′ : Rest} (l f e : ℕ) → BeginsBlock s → is-expansion e ≡ true →
-      Piece v (at spot.Font l f) q o r r′ y → Piece v (at s l f) (e ∷ q) o r (with-block e r′) (e ∷ y)
+      Piece v (at (machine.Font e) l f) q o r r′ y → Piece v (at s l f) (e ∷ q) o r (with-block e r′) y
   expansion-then l f e first g p = byte-then p (rw g) refl refl
   expansion-then l f e next g p =
-      byte-then p (rw (kind-of-expansion e g)) (rw (kind-of-expansion e g))
-      (rw (expansion-is-no-mark e 0x12 g (omega arith), expansion-is-no-mark e 0x1B g (omega arith), expansion-is-no-mark e 0x1C g (omega arith)))
+      byte-then p (rw (kind-of-expansion e g)) (rw (kind-of-expansion e g)) (rw (kind-of-expansion e g))
 
   block-piece :
       (b : Block) (bs : List Block) (ls : List Line) (s : Spot) (l f : ℕ) → BeginsBlock s → good-block b ≡ true →
@@ -206,7 +184,7 @@ module _ (v : Values) where
 
   line-then :
       {s : Spot} {o : Mode} {q y : List ℕ} {r r′ : Rest} (l f : ℕ) → BeginsLine s → l < 4 →
-      Piece v (at spot.Expansion (l + 1) f) q o r r′ y → Piece v (at s l f) (0x0A ∷ q) o r (line-before r′) (0x0A ∷ y)
+      Piece v (at (machine.Inside place.Line) (l + 1) f) q o r r′ y → Piece v (at s l f) (0x0A ∷ q) o r (line-before r′) (0x0A ∷ y)
   unfolding kind-of with-line
   line-then l f first h p = byte-then p (rw (lt-ltb l 4 h)) refl refl
   line-then l f next h p = byte-then p (rw (lt-ltb l 4 h)) refl refl
@@ -235,7 +213,7 @@ module _ (v : Values) where
 
   pub tree-piece : (t : Tree) → GoodTree t → Piece v start (encode t) Done nothing (behind [] [] [] t) (encode (resolved v t))
   tree-piece [] g = absurd (omega arith)
-  tree-piece (b ∷ ls) g = lines-piece b ls spot.Line 0 0 first (g .lines) (omega arith) (omega arith)
+  tree-piece (b ∷ ls) g = lines-piece b ls (machine.Inside place.Content) 0 0 first (g .lines) (omega arith) (omega arith)
 
 pub rest-befores : (m : Mode) (s : List ℕ) → rest m s ≡ befores m s nothing
 rest-befores m [] = refl

@@ -9,15 +9,15 @@ use lib.Dec.{eqb}
 use lib.ListN.{length, getD, length-append, length-map}
 use Rattle.frame.specs.Ground.{pick, both}
 use Rattle.content.specs.Byte.{is-character, is-expansion, is-count, all-characters, code-of}
-use Rattle.content.specs.Strip.{character-of}
+use Rattle.content.specs.Strip.{character-of, printed}
 use Rattle.content.specs.Grammar.{Item, Block, Line, Tree, character, tabulation, counter, field, date, item-bytes, items-bytes, blocks-bytes, lines-bytes, encode, good-item, good-items, good-block, good-blocks, good-line, good-lines, items-fields, blocks-fields, lines-fields, good-tree, characters, code-text, date-text, stands-for, resolved-items, resolved-block, resolved, block-shape, shape}
 use Rattle.content.specs.StripLaws.{Printable, printable}
 use Rattle.content.specs.declared.byte.Code.{Code}
-use Rattle.content.specs.declared.byte.Code.the-variants.{Hour, Minute, Month, Day, Colon, Slash, Dot, Space}
+use Rattle.content.specs.declared.byte.Code.the-variants.{Entry, Colon, Slash, Dot, Space}
 use Rattle.content.specs.declared.byte.Coded.{Coded}
 use Rattle.content.specs.declared.byte.Coded.the-variants as coded
 use Rattle.content.specs.declared.strip.Values.{Values}
-use Rattle.frame.proofs.Laws.{both-true, pick-case, true-both}
+use Rattle.frame.proofs.Ground.{both-true, pick-case, true-both}
 use Rattle.content.proofs.Good.{good-tree-tells, tree-is-good}
 
 pub characters-bytes : (cs : List ℕ) → items-bytes (characters cs) ≡ cs
@@ -58,16 +58,14 @@ prints-at (b ∷ s) (suc k) e = prints-at s k ((both-true (prints b) (printable 
 module _ (v : Values) (p : Printable v) where
   code-prints : (c : Code) → prints (character-of v c) ≡ true
   unfolding is-character
-  code-prints (Hour k) = prints-at (v .hour) k (p .hour)
-  code-prints (Minute k) = prints-at (v .minute) k (p .minute)
-  code-prints (Month k) = prints-at (v .month) k (p .month)
-  code-prints (Day k) = prints-at (v .day) k (p .day)
+  code-prints (Entry k) = prints-at (v .entries) k (p .entries)
   code-prints Colon = refl
   code-prints Slash = refl
   code-prints Dot = refl
   code-prints Space = refl
 
   code-text-characters : (c : Coded) → all-characters (code-text v c) ≡ true
+  unfolding printed
   code-text-characters (coded.Code c) = go (eqb (character-of v c) 0x00) (code-prints c)
     where
       go : (x : Bool) → pick x true (is-character (character-of v c)) ≡ true → all-characters (pick x [] (character-of v c ∷ [])) ≡ true
@@ -192,6 +190,7 @@ module _ (v : Values) where
 -- Each item grows to three times its bytes at most.
 module _ (v : Values) where
   code-text-length : (c : Coded) → length (code-text v c) ≤ 1
+  unfolding printed
   code-text-length (coded.Code c) =
       pick-case (λ (t : List ℕ). length t ≤ 1) (eqb (character-of v c) 0x00) _ _ (λ e. omega arith) (λ e. omega arith)
   code-text-length coded.Not = omega arith

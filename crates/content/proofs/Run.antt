@@ -1,17 +1,17 @@
 -- The mode that bytes lead to, and its tie to the verdict: bytes are good exactly where they lead to `Done`.
 use Prim.Native.Nat.{ℕ, suc, _+_}
 use mathlib.Core.Bool.{Bool, true, false}
-use mathlib.Core.List.{List, [], _∷_, _++_, append-nil}
+use mathlib.Core.List.{List, [], _∷_, _++_, append-nil, append-assoc}
 use mathlib.Core.Path.{_≡_, refl, ap, _∙_, sym}
 use native.Mathlib.Omega.{arith}
 use lib.ListN.{length}
 use Rattle.frame.specs.Ground.{pick}
-use Rattle.content.specs.Machine.{start, step}
+use Rattle.content.specs.Machine.{Spot, Mode, Reading, Done, Bad, start, step}
 use Rattle.content.specs.Content.{verdict, read, ended, onward}
-use Rattle.content.specs.declared.machine.Spot.{Spot}
-use Rattle.content.specs.declared.machine.Seen.{Seen}
-use Rattle.content.specs.declared.machine.Mode.{Mode}
-use Rattle.content.specs.declared.machine.Mode.the-variants.{Reading, Done, Bad}
+use Rattle.content.specs.declared.item.Seen.{Seen}
+use Rattle.content.specs.Position.{mark-of, marks}
+use Rattle.content.specs.Strip.{strip-from}
+use Rattle.content.specs.declared.strip.Values.{Values}
 use Rattle.content.specs.declared.test.Verdict.{Verdict}
 use Rattle.content.specs.declared.test.Verdict.the-variants.{Good}
 
@@ -73,3 +73,21 @@ good-runs i m (b ∷ s) e = good-runs (i + 1) (step m b) s (onward-good i (step 
 pub verdict-runs : (s : List ℕ) → verdict s ≡ Good → run start s ≡ Done
 unfolding verdict
 verdict-runs s e = good-runs 0 start s e
+
+-- Of bytes in two parts the second is read in the mode that the first leads to.
+pub run-append : (m : Mode) (p q : List ℕ) → run m (p ++ q) ≡ run (run m p) q
+run-append m [] q = refl
+run-append m (b ∷ p) q = run-append (step m b) p q
+
+pub length-marks : (m : Mode) (s : List ℕ) → length (marks m s) ≡ length s
+length-marks m [] = refl
+length-marks m (b ∷ s) = ap suc (length-marks (step m b) s)
+
+pub marks-append : (m : Mode) (p q : List ℕ) → marks m (p ++ q) ≡ marks m p ++ marks (run m p) q
+marks-append m [] q = refl
+marks-append m (b ∷ p) q = ap (_∷_ (mark-of m b)) (marks-append (step m b) p q)
+
+pub strip-append :
+    (v : Values) (m : Mode) (p q : List ℕ) → strip-from v m (p ++ q) ≡ strip-from v m p ++ strip-from v (run m p) q
+strip-append v m [] q = refl
+strip-append v m (b ∷ p) q = rw (strip-append v (step m b) p q, append-assoc)

@@ -9,24 +9,21 @@ use borrow.Author.Tests.{eqb-true, ltb-true}
 use lib.Dec.{eqb, ltb}
 use lib.ListN.{length}
 use Rattle.frame.specs.Ground.{pick}
-use Rattle.content.specs.Byte.{is-character, is-expansion, is-count, all-characters, kind-of, code-of}
-use Rattle.content.specs.Machine.{stepped, with-line, with-field, in-block, in-field, in-code, inside}
-use Rattle.content.specs.Grammar.{Item, Block, Line, character, tabulation, counter, field, date, item-bytes, items-bytes, blocks-bytes, lines-bytes, is-code, all-codes, good-item, good-items, good-blocks, good-line, good-lines, item-fields, items-fields, blocks-fields, lines-fields}
+use Rattle.content.specs.Byte.{is-character, is-expansion, is-count, all-characters, kind-of, code-of, is-code}
+use Rattle.content.specs.Machine as machine
+use Rattle.content.specs.Machine.{Spot, Mode, Reading, Done, Bad, stepped, with-line, with-field, in-block, in-code, inside}
+use Rattle.content.specs.Grammar.{Item, Block, Line, character, tabulation, counter, field, date, item-bytes, items-bytes, blocks-bytes, lines-bytes, all-codes, good-item, good-items, good-blocks, good-line, good-lines, item-fields, items-fields, blocks-fields, lines-fields}
 use Rattle.content.specs.Tree.{Rest, before-at, before-inside, before-in-block, with-line as line-before, with-letter, nothing, rest, tree-of}
 use Rattle.content.specs.Laws.{Correct}
 use Rattle.content.specs.declared.byte.Kind.{Kind}
 use Rattle.content.specs.declared.byte.Kind.the-variants as kind
 use Rattle.content.specs.declared.byte.Coded.{Coded}
 use Rattle.content.specs.declared.byte.Coded.the-variants as coded
-use Rattle.content.specs.declared.machine.Place.{Place}
-use Rattle.content.specs.declared.machine.Place.the-variants as place
-use Rattle.content.specs.declared.machine.Seen.{Seen}
-use Rattle.content.specs.declared.machine.Spot.{Spot}
-use Rattle.content.specs.declared.machine.Spot.the-variants as spot
-use Rattle.content.specs.declared.machine.Mode.{Mode}
-use Rattle.content.specs.declared.machine.Mode.the-variants.{Reading, Done, Bad}
-use Rattle.frame.proofs.Laws.{true-both}
-use Rattle.content.proofs.Bytes.{Means, kind-means, character-is-no-mark}
+use Rattle.content.specs.declared.item.Place.{Place}
+use Rattle.content.specs.declared.item.Place.the-variants as place
+use Rattle.content.specs.declared.item.Seen.{Seen}
+use Rattle.frame.proofs.Ground.{true-both}
+use Rattle.content.proofs.Bytes.{Means, kind-means}
 use Rattle.content.proofs.Run.{run, bad-is-not-done, reading-is-not-done, passed, verdict-runs}
 use Rattle.content.proofs.Good.{tree-is-good}
 
@@ -91,22 +88,22 @@ right-line seen s bs ls g r =
 abbrev Behind : List ℕ → Seen → List ℕ → Rest → Type 0
 Behind p seen s r = (t : List ℕ) × (s ≡ p ++ t) × Right seen t (r .items) (r .blocks) (r .lines)
 
--- What is right to be read inside a place, and at a spot. At a tabulation's count and a counter's number the item that is read has begun
+-- What is right to be read inside a place, and at a machine. At a tabulation's count and a counter's number the item that is read has begun
 -- a byte before.
 abbrev RightIn : Place → Seen → List ℕ → Rest → Type 0
+RightIn place.Content seen s r = Right seen s [] [] (r .lines) × (1 ≤ length (r .lines))
+RightIn place.Line seen s r = Right seen s [] (r .blocks) (r .lines) × (good-line (r .blocks) ≡ true)
 RightIn place.Block seen s r = Right seen s (r .items) (r .blocks) (r .lines)
 RightIn place.Field seen s r = (all-characters (r .letters) ≡ true) × Behind (r .letters ++ (0x12 ∷ [])) seen s r
 RightIn place.Date seen s r = (all-codes (r .letters) ≡ true) × Behind (r .letters ++ (0x1B ∷ [])) seen s r
 
 abbrev RightAt : Spot → Seen → List ℕ → Rest → Type 0
-RightAt spot.Line seen s r = Right seen s [] [] (r .lines) × (1 ≤ length (r .lines))
-RightAt spot.Expansion seen s r = Right seen s [] (r .blocks) (r .lines) × (good-line (r .blocks) ≡ true)
-RightAt spot.Font seen s r = (is-count (r .font) ≡ true) × Behind (r .font ∷ []) seen s r
-RightAt (spot.Inside p) seen s r = RightIn p seen s r
-RightAt spot.TabulationCount seen s r = Right seen (0x1E ∷ s) (r .items) (r .blocks) (r .lines)
-RightAt spot.TabulationEnd seen s r = Behind (0x1E ∷ []) seen s r
-RightAt spot.CounterNumber seen s r = Right seen (0x1C ∷ s) (r .items) (r .blocks) (r .lines)
-RightAt spot.CounterEnd seen s r = Behind (0x1C ∷ []) seen s r
+RightAt (machine.Font e) seen s r = (is-count (r .font) ≡ true) × Behind (r .font ∷ []) seen s r
+RightAt (machine.Inside p) seen s r = RightIn p seen s r
+RightAt machine.TabulationCount seen s r = Right seen (0x1E ∷ s) (r .items) (r .blocks) (r .lines)
+RightAt (machine.TabulationEnd n) seen s r = Behind (0x1E ∷ []) seen s r
+RightAt machine.CounterNumber seen s r = Right seen (0x1C ∷ s) (r .items) (r .blocks) (r .lines)
+RightAt machine.CounterEnd seen s r = Behind (0x1C ∷ []) seen s r
 
 abbrev RightFrom : List ℕ → Type 0
 RightFrom s = (p : Spot) (seen : Seen) → Fits seen → run (Reading p seen) s ≡ Done → RightAt p seen s (rest (Reading p seen) s)
@@ -125,19 +122,19 @@ rest-of-done [] = refl
 rest-of-done (b ∷ s) = rest-of-bad s
 
 -- Letters are only read inside fields and date items, so that the mark that closes one starts with none.
-tabulation-has-no-letters : (seen : Seen) (s : List ℕ) → (rest (Reading spot.TabulationCount seen) s) .letters ≡ []
+tabulation-has-no-letters : (seen : Seen) (s : List ℕ) → (rest (Reading machine.TabulationCount seen) s) .letters ≡ []
 tabulation-has-no-letters seen [] = refl
 tabulation-has-no-letters seen (b ∷ s) = refl
 
-counter-has-no-letters : (seen : Seen) (s : List ℕ) → (rest (Reading spot.CounterNumber seen) s) .letters ≡ []
+counter-has-no-letters : (seen : Seen) (s : List ℕ) → (rest (Reading machine.CounterNumber seen) s) .letters ≡ []
 counter-has-no-letters seen [] = refl
 counter-has-no-letters seen (b ∷ s) = refl
 
-block-has-no-letters : (seen : Seen) (s : List ℕ) → (rest (Reading (spot.Inside place.Block) seen) s) .letters ≡ []
+block-has-no-letters : (seen : Seen) (s : List ℕ) → (rest (Reading (machine.Inside place.Block) seen) s) .letters ≡ []
 block-has-no-letters seen [] = refl
 block-has-no-letters seen (b ∷ s) = by-kind (kind-of b)
   where
-    by-kind : (k : Kind) → (before-in-block k b (rest (in-block k seen) s)) .letters ≡ []
+    by-kind : (k : Kind) → (before-in-block k b (rest (in-block k b seen) s)) .letters ≡ []
     by-kind kind.Line = refl
     by-kind kind.End = ap (λ (r : Rest). r .letters) (rest-of-done s)
     by-kind kind.Field = refl
@@ -148,9 +145,12 @@ block-has-no-letters seen (b ∷ s) = by-kind (kind-of b)
     by-kind kind.Character = refl
     by-kind kind.Other = ap (λ (r : Rest). r .letters) (rest-of-bad s)
 
--- The step inside a date item, by what its two tests say of the byte.
+-- The steps inside a field and a date item, by what their two tests say of the byte.
+abbrev in-field-by : Bool → Bool → Seen → Mode
+in-field-by x y seen = pick x (Reading (machine.Inside place.Block) seen) (pick y (Reading (machine.Inside place.Field) seen) Bad)
+
 abbrev in-date-by : Bool → Coded → Seen → Mode
-in-date-by x k seen = pick x (Reading (spot.Inside place.Block) seen) (in-code k seen)
+in-date-by x k seen = pick x (Reading (machine.Inside place.Block) seen) (in-code k seen)
 
 -- A byte before bytes from which on all is right.
 module _ (s : List ℕ) (right : RightFrom s) (seen : Seen) (fits : Fits seen) where
@@ -159,7 +159,7 @@ module _ (s : List ℕ) (right : RightFrom s) (seen : Seen) (fits : Fits seen) w
   line-read e =
       let t = passed (ltb (seen .lines) 4) _ s e in
       let h = ltb-true (seen .lines) 4 t in
-      let n = right spot.Expansion _ (record { lines = omega arith; fields = fits .fields }) (rw t at e) in
+      let n = right (machine.Inside place.Line) _ (record { lines = omega arith; fields = fits .fields }) (rw t at e) in
       rw t (right-line seen s _ _ (n .1) (n .0))
 
   field-read :
@@ -169,98 +169,93 @@ module _ (s : List ℕ) (right : RightFrom s) (seen : Seen) (fits : Fits seen) w
   field-read e =
       let t = passed (ltb (seen .fields) 10) _ s e in
       let h = ltb-true (seen .fields) 10 t in
-      let n = right (spot.Inside place.Field) _ (record { lines = fits .lines; fields = omega arith }) (rw t at e) in
+      let n = right (machine.Inside place.Field) _ (record { lines = fits .lines; fields = omega arith }) (rw t at e) in
       rw t (right-item (field _) seen _ (0x12 ∷ s) (n .1 .0) _ _ _ (n .0) (ap (λ (r : List ℕ). 0x12 ∷ r) (n .1 .1)) refl (n .1 .2))
 
   in-block-read :
-      (k : Kind) (b : ℕ) → Means k b → run (in-block k seen) s ≡ Done →
-      RightIn place.Block seen (b ∷ s) (before-in-block k b (rest (in-block k seen) s))
+      (k : Kind) (b : ℕ) → Means k b → run (in-block k b seen) s ≡ Done →
+      RightIn place.Block seen (b ∷ s) (before-in-block k b (rest (in-block k b seen) s))
   in-block-read kind.Line b q e = rw q (line-read e)
   in-block-read kind.End b q e = rw (q, done-ends s e) (right-end seen fits)
   in-block-read kind.Field b q e = rw q (field-read e)
   in-block-read kind.Date b q e =
-      let h = right (spot.Inside place.Date) seen fits e in
+      let h = right (machine.Inside place.Date) seen fits e in
       right-item (date _) seen (seen .fields) (b ∷ s) (h .1 .0) _ _ _ (h .0)
       (rw q (ap (λ (t : List ℕ). 0x1B ∷ t) (h .1 .1))) (omega arith) (h .1 .2)
-  in-block-read kind.Counter b q e = rw q (right spot.CounterNumber seen fits e)
-  in-block-read kind.Tabulation b q e = rw q (right spot.TabulationCount seen fits e)
+  in-block-read kind.Counter b q e = rw q (right machine.CounterNumber seen fits e)
+  in-block-read kind.Tabulation b q e = rw q (right machine.TabulationCount seen fits e)
   in-block-read kind.Expansion b q e =
-      let h = right spot.Font seen fits e in
+      let h = right (machine.Font b) seen fits e in
       right-block b _ seen (b ∷ s) (h .1 .0) _ _ _ q (h .0) (ap (λ (t : List ℕ). b ∷ t) (h .1 .1)) (h .1 .2)
   in-block-read kind.Character b q e =
-      right-item (character b) seen (seen .fields) (b ∷ s) s _ _ _ q refl (omega arith) (right (spot.Inside place.Block) seen fits e)
+      right-item (character b) seen (seen .fields) (b ∷ s) s _ _ _ q refl (omega arith) (right (machine.Inside place.Block) seen fits e)
   in-block-read kind.Other b q e = absurd (bad-is-not-done s e)
 
   in-field-read :
-      (k : Kind) (b : ℕ) → Means k b → run (in-field k seen) s ≡ Done →
-      RightIn place.Field seen (b ∷ s) (pick (eqb b 0x12) (rest (in-field k seen) s) (with-letter b (rest (in-field k seen) s)))
-  in-field-read kind.Line b q e = absurd (bad-is-not-done s e)
-  in-field-read kind.End b q e = absurd (bad-is-not-done s e)
-  in-field-read kind.Field b q e = rw (q, block-has-no-letters seen s) (refl, (s, refl, right (spot.Inside place.Block) seen fits e))
-  in-field-read kind.Date b q e = absurd (bad-is-not-done s e)
-  in-field-read kind.Counter b q e = absurd (bad-is-not-done s e)
-  in-field-read kind.Tabulation b q e = absurd (bad-is-not-done s e)
-  in-field-read kind.Expansion b q e = absurd (bad-is-not-done s e)
-  in-field-read kind.Character b q e =
-      let h = right (spot.Inside place.Field) seen fits e in
-      rw (character-is-no-mark b 0x12 q (omega arith)) (true-both (is-character b) _ q (h .0), (h .1 .0, ap (λ (t : List ℕ). b ∷ t) (h .1 .1), h .1 .2))
-  in-field-read kind.Other b q e = absurd (bad-is-not-done s e)
+      (x y : Bool) (b : ℕ) → eqb b 0x12 ≡ x → is-character b ≡ y → run (in-field-by x y seen) s ≡ Done →
+      RightIn place.Field seen (b ∷ s) (pick x (rest (in-field-by x y seen) s) (with-letter b (rest (in-field-by x y seen) s)))
+  in-field-read true y b p q e =
+      rw (eqb-true b 0x12 p, block-has-no-letters seen s) (refl, (s, refl, right (machine.Inside place.Block) seen fits e))
+  in-field-read false true b p q e =
+      let h = right (machine.Inside place.Field) seen fits e in
+      (true-both (is-character b) _ q (h .0), (h .1 .0, ap (λ (t : List ℕ). b ∷ t) (h .1 .1), h .1 .2))
+  in-field-read false false b p q e = absurd (bad-is-not-done s e)
 
   in-date-read :
       (x : Bool) (k : Coded) (b : ℕ) → eqb b 0x1B ≡ x → code-of b ≡ k → run (in-date-by x k seen) s ≡ Done →
       RightIn place.Date seen (b ∷ s) (pick x (rest (in-date-by x k seen) s) (with-letter b (rest (in-date-by x k seen) s)))
   in-date-read true k b p q e =
-      rw (eqb-true b 0x1B p, block-has-no-letters seen s) (refl, (s, refl, right (spot.Inside place.Block) seen fits e))
+      rw (eqb-true b 0x1B p, block-has-no-letters seen s) (refl, (s, refl, right (machine.Inside place.Block) seen fits e))
   in-date-read false (coded.Code c) b p q e =
-      let h = right (spot.Inside place.Date) seen fits e in
+      let h = right (machine.Inside place.Date) seen fits e in
       (true-both (is-code (code-of b)) _ (rw q) (h .0), (h .1 .0, ap (λ (t : List ℕ). b ∷ t) (h .1 .1), h .1 .2))
   in-date-read false coded.Not b p q e = absurd (bad-is-not-done s e)
 
   inside-read :
       (p : Place) (b : ℕ) → run (inside p b seen) s ≡ Done → RightIn p seen (b ∷ s) (before-inside p b (rest (inside p b seen) s))
+  inside-read place.Content b e =
+      let t = passed (eqb b 0x0A) _ s e in
+      rw (t, eqb-true b 0x0A t) (line-read (rw t at e), omega arith)
+  inside-read place.Line b e =
+      let t = passed (is-expansion b) _ s e in
+      let r = in-block-read kind.Expansion b t (rw t at e) in
+      rw t (r, rw t at (r .blocks))
   inside-read place.Block b e = in-block-read (kind-of b) b (kind-means b) e
-  inside-read place.Field b e = in-field-read (kind-of b) b (kind-means b) e
+  inside-read place.Field b e = in-field-read (eqb b 0x12) (is-character b) b refl refl e
   inside-read place.Date b e = in-date-read (eqb b 0x1B) (code-of b) b refl refl e
 
   byte-read :
       (p : Spot) (b : ℕ) → run (stepped p b seen) s ≡ Done → RightAt p seen (b ∷ s) (before-at p b (rest (stepped p b seen) s))
-  byte-read spot.Line b e =
-      let t = passed (eqb b 0x0A) _ s e in
-      rw (t, eqb-true b 0x0A t) (line-read (rw t at e), omega arith)
-  byte-read spot.Expansion b e =
-      let t = passed (is-expansion b) _ s e in
-      let r = in-block-read kind.Expansion b t (rw t at e) in
-      rw t (r, rw t at (r .blocks))
-  byte-read spot.Font b e =
+  byte-read (machine.Font x) b e =
       let t = passed (is-count b) _ s e in
-      rw t (refl, (s, refl, right (spot.Inside place.Block) seen fits (rw t at e)))
-  byte-read (spot.Inside p) b e = inside-read p b e
-  byte-read spot.TabulationCount b e =
+      rw t (refl, (s, refl, right (machine.Inside place.Block) seen fits (rw t at e)))
+  byte-read (machine.Inside p) b e = inside-read p b e
+  byte-read machine.TabulationCount b e =
       let t = passed (is-count b) _ s e in
-      let h = right spot.TabulationEnd seen fits (rw t at e) in
+      let h = right (machine.TabulationEnd b) seen fits (rw t at e) in
       rw t (right-item (tabulation b) seen (seen .fields) (0x1E ∷ b ∷ s) (h .0) _ _ _ t
       (ap (λ (u : List ℕ). 0x1E ∷ b ∷ u) (h .1)) (omega arith) (h .2))
-  byte-read spot.TabulationEnd b e =
+  byte-read (machine.TabulationEnd n) b e =
       let t = passed (eqb b 0x1E) _ s e in
-      rw (t, eqb-true b 0x1E t) (s, refl, right (spot.Inside place.Block) seen fits (rw t at e))
-  byte-read spot.CounterNumber b e =
+      rw (t, eqb-true b 0x1E t) (s, refl, right (machine.Inside place.Block) seen fits (rw t at e))
+  byte-read machine.CounterNumber b e =
       let t = passed (eqb b 0x01) _ s e in
-      let h = right spot.CounterEnd seen fits (rw t at e) in
+      let h = right machine.CounterEnd seen fits (rw t at e) in
       rw t (right-item (counter b) seen (seen .fields) (0x1C ∷ b ∷ s) (h .0) _ _ _ t
       (ap (λ (u : List ℕ). 0x1C ∷ b ∷ u) (h .1)) (omega arith) (h .2))
-  byte-read spot.CounterEnd b e =
+  byte-read machine.CounterEnd b e =
       let t = passed (eqb b 0x1C) _ s e in
-      rw (t, eqb-true b 0x1C t) (s, refl, right (spot.Inside place.Block) seen fits (rw t at e))
+      rw (t, eqb-true b 0x1C t) (s, refl, right (machine.Inside place.Block) seen fits (rw t at e))
 
 right-from : (s : List ℕ) → RightFrom s
 right-from [] p seen fits e = absurd (reading-is-not-done p seen e)
 right-from (b ∷ s) p seen fits e = byte-read s (right-from s) seen fits p b e
 
-pub correct : Correct
+pub reads-a-tree : Correct
 unfolding tree-of
-correct s v =
+reads-a-tree s v =
     let none : Seen = record { lines = 0; fields = 0 } in
-    let h = right-from s spot.Line none (record { lines = omega arith; fields = omega arith }) (verdict-runs s v) in
+    let h = right-from s (machine.Inside place.Content) none (record { lines = omega arith; fields = omega arith }) (verdict-runs s v) in
     let r = h .0 in (
       tree-is-good _ (record { some-lines = h .1; few-lines = omega (arith, r .few-lines); lines = r .lines; few-fields = omega (arith, r .few-fields) }),
       sym (r .bytes),

@@ -1,5 +1,5 @@
 -- Every contract has one outcome: the answer is the rule's, and the bytes after go by the answer.
-use Rattle.content.specs.Unique.{ReadsUnique, TestsUnique, EditsUnique, UpdatesUnique, StripsUnique}
+use Rattle.content.specs.Unique.{ReadsUnique, TestsUnique, EditsUnique, UpdatesUnique, LayingUnique, StripsUnique, PutsUnique}
 
 pub reads-unique : ReadsUnique
 reads-unique s r r′ p q = cc
@@ -13,5 +13,11 @@ edits-unique before address symbols r r′ after after′ p q = ((cc), (cc))
 pub updates-unique : UpdatesUnique
 updates-unique before text from r r′ after after′ p q = ((cc), (cc))
 
+pub laying-unique : LayingUnique
+laying-unique before text from r r′ after after′ p q = ((cc), (cc))
+
 pub strips-unique : StripsUnique
 strips-unique v s before r r′ after after′ p q = ((cc), (cc))
+
+pub puts-unique : PutsUnique
+puts-unique v s before r r′ after after′ p q = ((cc), (cc))

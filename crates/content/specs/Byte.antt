@@ -1,12 +1,12 @@
 -- What a single byte may be in a content, as document 01's list of items says it.
-use Prim.Native.Nat.{ℕ, _-_}
-use mathlib.Core.Bool.{Bool, true}
+use Prim.Native.Nat.{ℕ, suc, _-_}
+use mathlib.Core.Bool.{Bool, true, false}
 use mathlib.Core.List.{List, [], _∷_}
 use lib.Dec.{eqb}
 use Rattle.frame.specs.Ground.{pick, both, within}
 use Rattle.content.specs.declared.byte.Kind.{Kind}
 use Rattle.content.specs.declared.byte.Kind.the-variants.{Line, End, Field, Date, Counter, Tabulation, Expansion, Character, Other}
-use Rattle.content.specs.declared.byte.Code.the-variants.{Hour, Minute, Month, Day, Colon, Slash, Dot, Space}
+use Rattle.content.specs.declared.byte.Code.the-variants.{Entry, Colon, Slash, Dot, Space}
 use Rattle.content.specs.declared.byte.Coded.{Coded}
 use Rattle.content.specs.declared.byte.Coded.the-variants as coded
 
@@ -40,14 +40,22 @@ kind-of b =
     (pick (is-character b) Character Other)))))))
 
 -- 01, What a content is: "Codes 55h 56h 57h are the three characters of the hour's entry, 58h to 5Ah the minute's, 5Bh to 5Dh
--- the month's, 61h to 63h the day of month's; 70h is ":", 71h "/", 72h ".", 73h a space."
+-- the month's, 61h to 63h the day of month's; 70h is ":", 71h "/", 72h ".", 73h a space." What the entries are is handed in, a byte for
+-- each code from 55h on.
 unfoldable pub code-of : ℕ → Coded
 code-of b =
-    pick (within 0x55 0x57 b) (coded.Code (Hour (b - 0x55)))
-    (pick (within 0x58 0x5A b) (coded.Code (Minute (b - 0x58)))
-    (pick (within 0x5B 0x5D b) (coded.Code (Month (b - 0x5B)))
-    (pick (within 0x61 0x63 b) (coded.Code (Day (b - 0x61)))
+    pick (within 0x55 0x5D b) (coded.Code (Entry (b - 0x55)))
+    (pick (within 0x61 0x63 b) (coded.Code (Entry (b - 0x55)))
     (pick (eqb b 0x70) (coded.Code Colon)
     (pick (eqb b 0x71) (coded.Code Slash)
     (pick (eqb b 0x72) (coded.Code Dot)
-    (pick (eqb b 0x73) (coded.Code Space) coded.Not)))))))
+    (pick (eqb b 0x73) (coded.Code Space) coded.Not)))))
+
+abbrev pub is-code : Coded → Bool
+is-code (coded.Code c) = true
+is-code coded.Not = false
+
+-- How many bytes in a row hold a test, from the first on.
+abbrev pub in-front : (ℕ → Bool) → List ℕ → ℕ
+in-front holds [] = 0
+in-front holds (b ∷ s) = pick (holds b) (suc (in-front holds s)) 0

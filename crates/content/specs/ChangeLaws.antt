@@ -1,19 +1,18 @@
 -- What is true of changes: edits and updates put characters at character positions, and leave everything else as it was.
-use Prim.Native.Nat.{ℕ, _+_, _-_, _≤_, _<_}
+use Prim.Native.Nat.{ℕ, _+_, _≤_, _<_}
 use mathlib.Core.Bool.{true, false}
-use mathlib.Core.List.{List, [], _∷_, _++_}
+use mathlib.Core.List.{List, [], _∷_}
 use mathlib.Core.Path.{_≡_}
-use lib.ListN.{length, getD, take, replicate}
+use lib.ListN.{length, getD}
 use Rattle.frame.specs.Ground.{pick}
 use Rattle.content.specs.Byte.{is-character, all-characters}
-use Rattle.content.specs.Machine.{start, step}
+use Rattle.content.specs.Machine.{Mode, start, step}
 use Rattle.content.specs.Content.{verdict, is-content}
 use Rattle.content.specs.Position.{marks, mark-of, is-position, is-field-position, field-positions}
 use Rattle.content.specs.Edit.{edited, replaced}
-use Rattle.content.specs.Update.{laid}
+use Rattle.content.specs.Update.{fitted, laid}
 use Rattle.content.specs.Grammar.{outline}
 use Rattle.content.specs.Tree.{tree-of}
-use Rattle.content.specs.declared.machine.Mode.{Mode}
 use Rattle.content.specs.declared.position.Mark.the-variants.{Structure}
 use Rattle.content.specs.declared.edit.Edited.the-variants.{Done}
 
@@ -90,10 +89,6 @@ UpdateStaysContent =
 abbrev pub at-fields : Mode → List ℕ → List ℕ
 at-fields m [] = []
 at-fields m (b ∷ s) = pick (is-field-position (mark-of m b)) (b ∷ at-fields (step m b) s) (at-fields (step m b) s)
-
--- A text cut to n characters, and filled with spaces to n.
-abbrev pub fitted : ℕ → List ℕ → List ℕ
-fitted n text = take n text ++ replicate (n - length text) 0x20
 
 -- 01, What an accepted frame does: "An update lays its characters over the character positions of external fields [..], fields in
 -- order [..]. Positions left over become spaces, characters left over are dropped."

@@ -6,9 +6,7 @@ use mathlib.Core.Path.{_≡_}
 use lib.Dec.{leb}
 use lib.ListN.{length}
 use Rattle.frame.specs.Ground.{pick, both}
-use Rattle.content.specs.Machine.{start, step}
-use Rattle.content.specs.declared.machine.Mode.{Mode}
-use Rattle.content.specs.declared.machine.Mode.the-variants.{Reading, Done, Bad}
+use Rattle.content.specs.Machine.{Mode, Reading, Done, Bad, start, step}
 use Rattle.content.specs.declared.test.Verdict.{Verdict}
 use Rattle.content.specs.declared.test.Verdict.the-variants.{Good, Unfit}
 
@@ -37,9 +35,13 @@ abbrev pub is-good : Verdict → Bool
 is-good Good = true
 is-good (Unfit i) = false
 
+-- 01, What a content is: "512 bytes at most."
+abbrev pub longest-message : ℕ
+longest-message = 512
+
 -- 01, What a content is: "One to four lines, then 0Dh, and no byte after it; 512 bytes at most."
 unfoldable pub is-content : List ℕ → Bool
-is-content s = both (leb (length s) 512) (is-good (verdict s))
+is-content s = both (leb (length s) longest-message) (is-good (verdict s))
 
 -- 01, Other calls: "test a content (0 or 10), for our approval screen".
 unfoldable pub tested : List ℕ → ℕ

@@ -4,9 +4,10 @@ use mathlib.Core.Bool.{Bool, true, false}
 use mathlib.Core.List.{List, [], _∷_, _++_, map}
 use lib.Dec.{eqb, leb}
 use lib.ListN.{length}
-use Rattle.frame.specs.Ground.{pick, both, within}
-use Rattle.content.specs.Byte.{is-character, is-expansion, is-count, all-characters, code-of}
-use Rattle.content.specs.Strip.{character-of}
+use Rattle.frame.specs.Ground.{both, within}
+use Rattle.content.specs.Byte.{is-character, is-expansion, is-count, all-characters, code-of, is-code}
+use Rattle.content.specs.Machine.{most-lines, most-fields}
+use Rattle.content.specs.Strip.{character-of, printed}
 use Rattle.content.specs.declared.byte.Coded.{Coded}
 use Rattle.content.specs.declared.byte.Coded.the-variants as coded
 use Rattle.content.specs.declared.strip.Values.{Values}
@@ -63,10 +64,6 @@ abbrev pub encode : Tree → List ℕ
 encode t = lines-bytes t ++ (0x0D ∷ [])
 
 -- 01, What a content is: what each item may hold. Document 01 has the one counter 01h.
-abbrev pub is-code : Coded → Bool
-is-code (coded.Code c) = true
-is-code coded.Not = false
-
 abbrev pub all-codes : List ℕ → Bool
 all-codes [] = true
 all-codes (c ∷ cs) = both (is-code (code-of c)) (all-codes cs)
@@ -120,7 +117,7 @@ lines-fields (l ∷ ls) = blocks-fields l + lines-fields ls
 
 -- "One to four lines"
 unfoldable pub good-tree : Tree → Bool
-good-tree t = both (within 1 4 (length t)) (both (good-lines t) (leb (lines-fields t) 10))
+good-tree t = both (within 1 most-lines (length t)) (both (good-lines t) (leb (lines-fields t) most-fields))
 
 -- What each item stands for: "each counter replaced by its 9 digits, each field by its characters, each date item by its text.
 -- Tabulations stay." "00h prints nothing."
@@ -129,7 +126,7 @@ characters [] = []
 characters (c ∷ cs) = character c ∷ characters cs
 
 abbrev pub code-text : Values → Coded → List ℕ
-code-text v (coded.Code c) = pick (eqb (character-of v c) 0x00) [] (character-of v c ∷ [])
+code-text v (coded.Code c) = printed (character-of v c)
 code-text v coded.Not = []
 
 abbrev pub date-text : Values → List ℕ → List ℕ

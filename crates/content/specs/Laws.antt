@@ -5,12 +5,11 @@ use mathlib.Core.Bool.{true}
 use mathlib.Core.List.{List}
 use mathlib.Core.Path.{_≡_}
 use Rattle.content.specs.Byte.{is-character}
-use Rattle.content.specs.Machine.{step}
+use Rattle.content.specs.Machine.{Mode, step}
 use Rattle.content.specs.Content.{verdict}
 use Rattle.content.specs.Position.{mark-of, is-position}
 use Rattle.content.specs.Grammar.{Tree, encode, good-tree}
 use Rattle.content.specs.Tree.{tree-of}
-use Rattle.content.specs.declared.machine.Mode.{Mode}
 use Rattle.content.specs.declared.test.Verdict.the-variants.{Good}
 
 -- Correct: what is read as good is a good tree, written out.

@@ -1,35 +1,37 @@
 -- The mark of every byte of a content: structure, or a character position and in what it stands.
-use Prim.Native.Nat.{ℕ, _+_}
+use Prim.Native.Nat.{ℕ, _+_, _-_, _≤_, _<_}
 use mathlib.Core.Bool.{Bool, true, false}
-use mathlib.Core.List.{List, [], _∷_}
-use lib.ListN.{getD}
+use mathlib.Core.List.{List, [], _∷_, _++_}
+use mathlib.Core.Path.{_≡_}
+use lib.ListN.{length, drop, replicate}
 use Rattle.frame.specs.Ground.{pick}
 use Rattle.content.specs.Byte.{is-character}
-use Rattle.content.specs.Machine.{start, step}
-use Rattle.content.specs.declared.machine.Place.{Place}
-use Rattle.content.specs.declared.machine.Place.the-variants.{Block, Field, Date}
-use Rattle.content.specs.declared.machine.Spot.{Spot}
-use Rattle.content.specs.declared.machine.Spot.the-variants as spot
-use Rattle.content.specs.declared.machine.Mode.{Mode}
-use Rattle.content.specs.declared.machine.Mode.the-variants.{Reading, Done, Bad}
+use Rattle.content.specs.Machine.{Spot, Inside, Font, TabulationCount, TabulationEnd, CounterNumber, CounterEnd, Mode, Reading, Done, Bad, start, step}
+use Rattle.content.specs.declared.item.Place.{Place}
+use Rattle.content.specs.declared.item.Place.the-variants.{Content, Line, Block, Field, Date}
+use Rattle.content.specs.declared.item.Seen.{Seen}
+use Rattle.content.specs.declared.item.Item.{Item}
+use Rattle.content.specs.declared.item.Item.the-variants as item
 use Rattle.content.specs.declared.position.Mark.{Mark}
 use Rattle.content.specs.declared.position.Mark.the-variants.{Structure, Character, FieldCharacter}
+use Rattle.content.specs.declared.position.Run.{Run}
+use Rattle.content.specs.declared.position.Run.the-variants.{Found, None}
 
 -- What a character is where it stands: an item, a part of an external field, or a code of a date item.
 abbrev pub mark-inside : Place → Mark
+mark-inside Content = Structure
+mark-inside Line = Structure
 mark-inside Block = Character
 mark-inside Field = FieldCharacter
 mark-inside Date = Structure
 
 abbrev pub mark-at : Spot → Mark
-mark-at spot.Line = Structure
-mark-at spot.Expansion = Structure
-mark-at spot.Font = Structure
-mark-at (spot.Inside place) = mark-inside place
-mark-at spot.TabulationCount = Structure
-mark-at spot.TabulationEnd = Structure
-mark-at spot.CounterNumber = Structure
-mark-at spot.CounterEnd = Structure
+mark-at (Inside place) = mark-inside place
+mark-at (Font e) = Structure
+mark-at TabulationCount = Structure
+mark-at (TabulationEnd n) = Structure
+mark-at CounterNumber = Structure
+mark-at CounterEnd = Structure
 
 abbrev pub mark-in : Mode → Mark
 mark-in (Reading spot seen) = mark-at spot
@@ -63,6 +65,28 @@ field-positions-from m (b ∷ s) = pick (is-field-position (mark-of m b)) 1 0 + 
 abbrev pub field-positions : List ℕ → ℕ
 field-positions s = field-positions-from start s
 
--- Whether the byte at an address is a character position; behind the content there is none.
-abbrev pub position-at : List ℕ → ℕ → Bool
-position-at s address = is-position (getD (marks start s) address Structure)
+-- What the bytes of an item are.
+abbrev pub item-mark : Item → Mark
+item-mark item.LineOpens = Structure
+item-mark item.BlockOpens = Structure
+item-mark item.Characters = Character
+item-mark item.FieldCharacters = FieldCharacter
+item-mark (item.Tabulation n) = Structure
+item-mark (item.Counter n) = Structure
+item-mark item.FieldOpens = Structure
+item-mark item.FieldCloses = Structure
+item-mark item.DateOpens = Structure
+item-mark (item.Date c) = Structure
+item-mark item.DateCloses = Structure
+
+-- The contract of `run_at`: structure up to the positions that are found, and behind them the marks of what is left; or all is structure.
+pub record Stretch (s : List ℕ) (at : ℕ) (p : Place) (seen : Seen) (k : Mark) (from to : ℕ) (p′ : Place) (seen′ : Seen) : Type 0 where
+  pub ahead : at ≤ from
+  pub some : from < to
+  pub inside : to ≤ length s
+  pub position : is-position k ≡ true
+  pub same : marks (Reading (Inside p) seen) (drop at s) ≡ replicate (from - at) Structure ++ (replicate (to - from) k ++ marks (Reading (Inside p′) seen′) (drop to s))
+
+abbrev pub Runs : List ℕ → ℕ → Place → Seen → Run → Type 0
+Runs s at p seen (Found k from to p′ seen′) = Stretch s at p seen k from to p′ seen′
+Runs s at p seen None = marks (Reading (Inside p) seen) (drop at s) ≡ replicate (length s - at) Structure

@@ -8,13 +8,12 @@ use lib.ListN.{length}
 use Rattle.frame.specs.Ground.{pick, both}
 use Rattle.content.specs.Byte.{all-characters, is-character}
 use Rattle.content.specs.Content.{verdict, read}
+use Rattle.content.specs.Machine.{Inside, Reading}
 use Rattle.content.specs.Strip.{strip, strip-from}
 use Rattle.content.specs.Grammar.{encode, resolved, shape, all-codes, date-text}
 use Rattle.content.specs.Tree.{tree-of}
-use Rattle.content.specs.declared.machine.Mode.the-variants.{Reading}
-use Rattle.content.specs.declared.machine.Place.the-variants.{Block}
-use Rattle.content.specs.declared.machine.Seen.{Seen}
-use Rattle.content.specs.declared.machine.Spot.the-variants.{Inside}
+use Rattle.content.specs.declared.item.Place.the-variants.{Block}
+use Rattle.content.specs.declared.item.Seen.{Seen}
 use Rattle.content.specs.declared.test.Verdict.the-variants.{Good}
 use Rattle.content.specs.declared.strip.Values.{Values}
 
@@ -26,10 +25,7 @@ printable (b ∷ s) = both (pick (eqb b 0x00) true (is-character b)) (printable 
 pub record Printable (v : Values) : Type 0 where
   pub digits : all-characters (v .digits) ≡ true
   pub nine : length (v .digits) ≡ 9
-  pub hour : printable (v .hour) ≡ true
-  pub minute : printable (v .minute) ≡ true
-  pub month : printable (v .month) ≡ true
-  pub day : printable (v .day) ≡ true
+  pub entries : printable (v .entries) ≡ true
 
 -- 01, What an accepted frame does: "A strip is the content with each counter replaced by its 9 digits [..], each field by its
 -- characters, each date item by its text": the writing of the tree with each item replaced by what it stands for.

@@ -4,16 +4,12 @@ use mathlib.Core.List.{List, [], _∷_}
 use lib.Dec.{eqb}
 use Rattle.frame.specs.Ground.{pick}
 use Rattle.content.specs.Byte.{kind-of}
-use Rattle.content.specs.Machine.{start, step}
+use Rattle.content.specs.Machine.{Spot, Inside, Font, TabulationCount, TabulationEnd, CounterNumber, CounterEnd, Mode, Reading, Done, Bad, start, step}
 use Rattle.content.specs.Grammar.{Item, Block, Line, Tree, character, tabulation, counter, field, date}
 use Rattle.content.specs.declared.byte.Kind.{Kind}
 use Rattle.content.specs.declared.byte.Kind.the-variants as kind
-use Rattle.content.specs.declared.machine.Place.{Place}
-use Rattle.content.specs.declared.machine.Place.the-variants as place
-use Rattle.content.specs.declared.machine.Spot.{Spot}
-use Rattle.content.specs.declared.machine.Spot.the-variants as spot
-use Rattle.content.specs.declared.machine.Mode.{Mode}
-use Rattle.content.specs.declared.machine.Mode.the-variants.{Reading, Done, Bad}
+use Rattle.content.specs.declared.item.Place.{Place}
+use Rattle.content.specs.declared.item.Place.the-variants as place
 
 -- What the bytes from a place on hold: the rest of the field or date item they stand in, of the block (with its font, where that is
 -- still to come), of the line, and of the content.
@@ -65,19 +61,19 @@ before-in-block kind.Character b r = with-item (character b) r
 before-in-block kind.Other b r = r
 
 abbrev pub before-inside : Place → ℕ → Rest → Rest
+before-inside place.Content b r = with-line r
+before-inside place.Line b r = with-block b r
 before-inside place.Block b r = before-in-block (kind-of b) b r
 before-inside place.Field b r = pick (eqb b 0x12) r (with-letter b r)
 before-inside place.Date b r = pick (eqb b 0x1B) r (with-letter b r)
 
 abbrev pub before-at : Spot → ℕ → Rest → Rest
-before-at spot.Line b r = with-line r
-before-at spot.Expansion b r = with-block b r
-before-at spot.Font b r = with-font b r
-before-at (spot.Inside p) b r = before-inside p b r
-before-at spot.TabulationCount b r = with-item (tabulation b) r
-before-at spot.TabulationEnd b r = r
-before-at spot.CounterNumber b r = with-item (counter b) r
-before-at spot.CounterEnd b r = r
+before-at (Inside p) b r = before-inside p b r
+before-at (Font e) b r = with-font b r
+before-at TabulationCount b r = with-item (tabulation b) r
+before-at (TabulationEnd n) b r = r
+before-at CounterNumber b r = with-item (counter b) r
+before-at CounterEnd b r = r
 
 abbrev pub before : Mode → ℕ → Rest → Rest
 before (Reading spot seen) b r = before-at spot b r

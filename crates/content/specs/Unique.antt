@@ -4,8 +4,8 @@ use mathlib.Core.List.{List}
 use mathlib.Core.Path.{_≡_}
 use Rattle.content.specs.Content.{Reads, Tests}
 use Rattle.content.specs.Edit.{Edits}
-use Rattle.content.specs.Update.{Updates}
-use Rattle.content.specs.Strip.{Strips}
+use Rattle.content.specs.Update.{Laying, Updates}
+use Rattle.content.specs.Strip.{Puts, Strips}
 use Rattle.content.specs.declared.test.Verdict.{Verdict}
 use Rattle.content.specs.declared.edit.Edited.{Edited}
 use Rattle.content.specs.declared.update.Updated.{Updated}
@@ -32,9 +32,23 @@ UpdatesUnique =
     Updates before text from r′ after′ →
     (r ≡ r′) × (after ≡ after′)
 
+abbrev pub LayingUnique : Type 0
+LayingUnique =
+    (before text : List ℕ) (from r r′ : ℕ) (after after′ : List ℕ) →
+    Laying before text from r after →
+    Laying before text from r′ after′ →
+    (r ≡ r′) × (after ≡ after′)
+
 abbrev pub StripsUnique : Type 0
 StripsUnique =
     (v : Values) (s before : List ℕ) (r r′ : Stripped) (after after′ : List ℕ) →
     Strips v s before r after →
     Strips v s before r′ after′ →
+    (r ≡ r′) × (after ≡ after′)
+
+abbrev pub PutsUnique : Type 0
+PutsUnique =
+    (v : Values) (s before : List ℕ) (r r′ : Stripped) (after after′ : List ℕ) →
+    Puts v s before r after →
+    Puts v s before r′ after′ →
     (r ≡ r′) × (after ≡ after′)

@@ -1,13 +1,12 @@
 -- A field update, as far as one content goes: its characters laid over the content's field positions.
-use Prim.Native.Nat.{ℕ}
-use mathlib.Core.List.{List, [], _∷_}
+use Prim.Native.Nat.{ℕ, _-_}
+use mathlib.Core.List.{List, [], _∷_, _++_}
 use mathlib.Core.Path.{_≡_}
-use lib.ListN.{drop}
+use lib.ListN.{length, take, drop, replicate}
 use Rattle.frame.specs.Ground.{pick, unless}
 use Rattle.content.specs.Byte.{all-characters}
-use Rattle.content.specs.Machine.{start, step}
+use Rattle.content.specs.Machine.{Mode, start, step}
 use Rattle.content.specs.Position.{mark-of, is-field-position, field-positions}
-use Rattle.content.specs.declared.machine.Mode.{Mode}
 use Rattle.content.specs.declared.update.Updated.{Updated}
 use Rattle.content.specs.declared.update.Updated.the-variants.{Laid, NoCharacter}
 
@@ -27,6 +26,15 @@ abbrev pub laid : List ℕ → Mode → List ℕ → List ℕ
 laid text m [] = []
 laid text m (b ∷ s) =
     pick (is-field-position (mark-of m b)) (next-of text ∷ laid (rest-of text) (step m b) s) (b ∷ laid text (step m b) s)
+
+-- A text cut to n characters, and filled with spaces to n.
+abbrev pub fitted : ℕ → List ℕ → List ℕ
+fitted n text = take n text ++ replicate (n - length text) 0x20
+
+-- The contract of `lay_text`: a content takes any text from a given character on, and tells how many positions it has.
+pub record Laying (before text : List ℕ) (from r : ℕ) (after : List ℕ) : Type 0 where
+  pub answer : r ≡ field-positions before
+  pub bytes : after ≡ laid (drop from text) start before
 
 -- 01, Numbers: 13 "an update byte is no character", over all its bytes, also those that are dropped.
 unfoldable pub updated : List ℕ → List ℕ → Updated

@@ -1,7 +1,7 @@
 // What a single byte may be: a kind of its own, or a code of a date item.
 ghost use mathlib.Core.Path.{_≡_};
 ghost use lib.ListN.{getD};
-ghost use Rattle.content.specs.Byte.{all-characters, code-of, is-character, is-count, is-expansion, kind-of};
+ghost use Rattle.content.specs.Byte.{all-characters, code-of, is-character, is-code, is-count, is-expansion, kind-of};
 ghost use Rattle.frame.specs.Ground.{within};
 
 // What a byte can be at the place of an item.
@@ -17,12 +17,9 @@ pub enum Kind {
     Other,
 }
 
-// A code of a date item: a character of an entry, 0 to 2, or a sign of its own.
+// A code of a date item: the place of its byte among the 24 that are handed in for the codes from 55h on, or a sign of its own.
 pub enum Code {
-    Hour(u8),
-    Minute(u8),
-    Month(u8),
-    Day(u8),
+    Entry(u8),
     Colon,
     Slash,
     Dot,
@@ -114,17 +111,11 @@ pub(crate) fn kind_of(b: u8) -> Kind
 pub(crate) fn code_of(b: u8) -> Coded
     ensures { λ r. ⌜ r ≡ code-of b ⌝ }
 {
-    if within(0x55, 0x57, b) {
-        return Coded::Code(Code::Hour(b - 0x55));
-    }
-    if within(0x58, 0x5A, b) {
-        return Coded::Code(Code::Minute(b - 0x58));
-    }
-    if within(0x5B, 0x5D, b) {
-        return Coded::Code(Code::Month(b - 0x5B));
+    if within(0x55, 0x5D, b) {
+        return Coded::Code(Code::Entry(b - 0x55));
     }
     if within(0x61, 0x63, b) {
-        return Coded::Code(Code::Day(b - 0x61));
+        return Coded::Code(Code::Entry(b - 0x55));
     }
     if b == 0x70 {
         return Coded::Code(Code::Colon);
@@ -139,6 +130,15 @@ pub(crate) fn code_of(b: u8) -> Coded
         return Coded::Code(Code::Space);
     }
     Coded::Not
+}
+
+pub(crate) fn is_code(coded: Coded) -> bool
+    ensures { λ r. ⌜ r ≡ is-code coded ⌝ }
+{
+    match coded {
+        Coded::Code(_) => true,
+        Coded::Not => false,
+    }
 }
 
 // The byte at a place, and 0, which stands nowhere in a content, behind the end.

@@ -1,9 +1,9 @@
 // The edit of 42h: all addresses, then all symbols, and only then the writing.
 use crate::byte::all_characters;
-use crate::machine::begin;
-use crate::machine::step;
-use crate::position::is_position;
-use crate::position::mark_of;
+use crate::item::Place;
+use crate::item::Seen;
+use crate::position::Run;
+use crate::position::run_at;
 use frame::build::lay;
 ghost use lib.ListN.{drop};
 ghost use mathlib.Core.Path.{_≡_};
@@ -23,24 +23,53 @@ pub enum Edited {
 fn addressed(s: &[u8], address: usize, symbols: &[u8]) -> bool
     ensures { λ r. ⌜ r ≡ addressed (now (symbols .entry)) (drop address (marks start (now (s .entry)))) ⌝ }
 {
-    let mut mode = begin();
-    let mut i = 0;
-    let mut k = 0;
-    while k < symbols.len() {
-        if s.len() <= i {
-            return false;
-        }
-        let b = s[i];
-        if address <= i {
-            if !is_position(mark_of(mode, b)) {
+    let n = symbols.len();
+    if n == 0 {
+        return true;
+    }
+    if s.len() < n {
+        return false;
+    }
+    if s.len() - n < address {
+        return false;
+    }
+    // From here on the symbols have to land, and at the end all have.
+    let mut from = address;
+    let end = address + n;
+    let mut at = 0;
+    let mut place = Place::Content;
+    let mut seen = Seen {
+        lines: 0,
+        fields: 0,
+    };
+    loop {
+        let run = run_at(s, at, place, seen);
+        match run {
+            Run::Found {
+                mark: _,
+                from: first,
+                to,
+                place: inside,
+                seen: counts,
+            } => {
+                if from < first {
+                    return false;
+                }
+                if end <= to {
+                    return true;
+                }
+                if from < to {
+                    from = to;
+                }
+                at = to;
+                place = inside;
+                seen = counts;
+            }
+            Run::None => {
                 return false;
             }
-            k += 1;
         }
-        mode = step(mode, b);
-        i += 1;
     }
-    true
 }
 
 // Replaces bytes of a content from an address on, where all of them are character positions and all symbols characters.

@@ -2,7 +2,6 @@
 pub mod byte;
 pub mod edit;
 pub mod item;
-pub mod machine;
 pub mod position;
 pub mod strip;
 pub mod test;

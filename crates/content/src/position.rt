@@ -1,12 +1,15 @@
-// The mark of a byte, and the field positions of a content.
-use crate::byte::is_character;
-use crate::machine::Mode;
-use crate::machine::Place;
-use crate::machine::Spot;
-use crate::machine::begin;
-use crate::machine::step;
+// The character positions of a content: the runs of characters that the item reader finds, in blocks and in external fields.
+use crate::item::Item;
+use crate::item::Place;
+use crate::item::Seen;
+use crate::item::Token;
+use crate::item::behind;
+use crate::item::counted;
+use crate::item::piece_at;
+ghost use Prim.Native.Nat.{_≤_};
+ghost use lib.ListN.{length};
 ghost use mathlib.Core.Path.{_≡_};
-ghost use Rattle.content.specs.Position.{field-positions, is-field-position, is-position, mark-at, mark-in, mark-inside, mark-of, position-at};
+ghost use Rattle.content.specs.Position.{Runs, field-positions, is-field-position, is-position, item-mark};
 
 // What a byte is to edits and updates.
 pub enum Mark {
@@ -15,46 +18,39 @@ pub enum Mark {
     FieldCharacter,
 }
 
-fn mark_inside(place: Place) -> Mark
-    ensures { λ r. ⌜ r ≡ mark-inside place ⌝ }
+// The next character positions in a row.
+pub enum Run {
+    // What they are, from which place to which they stand, and in what we are behind them.
+    Found {
+        mark: Mark,
+        from: usize,
+        to: usize,
+        place: Place,
+        seen: Seen,
+    },
+    None,
+}
+
+// What the bytes of an item are.
+fn item_mark(item: Item) -> Mark
+    ensures { λ r. ⌜ r ≡ item-mark item ⌝ }
 {
-    match place {
-        Place::Block => Mark::Character,
-        Place::Field => Mark::FieldCharacter,
-        Place::Date => Mark::Structure,
+    match item {
+        Item::LineOpens => Mark::Structure,
+        Item::BlockOpens => Mark::Structure,
+        Item::Characters => Mark::Character,
+        Item::FieldCharacters => Mark::FieldCharacter,
+        Item::Tabulation(_) => Mark::Structure,
+        Item::Counter(_) => Mark::Structure,
+        Item::FieldOpens => Mark::Structure,
+        Item::FieldCloses => Mark::Structure,
+        Item::DateOpens => Mark::Structure,
+        Item::Date(_) => Mark::Structure,
+        Item::DateCloses => Mark::Structure,
     }
 }
 
-fn mark_in(mode: Mode) -> Mark
-    ensures { λ r. ⌜ r ≡ mark-in mode ⌝ }
-{
-    match mode {
-        Mode::Reading(spot, _) => match spot {
-            Spot::Line => Mark::Structure,
-            Spot::Expansion => Mark::Structure,
-            Spot::Font => Mark::Structure,
-            Spot::Inside(place) => mark_inside(place),
-            Spot::TabulationCount => Mark::Structure,
-            Spot::TabulationEnd => Mark::Structure,
-            Spot::CounterNumber => Mark::Structure,
-            Spot::CounterEnd => Mark::Structure,
-        },
-        Mode::Done => Mark::Structure,
-        Mode::Bad => Mark::Structure,
-    }
-}
-
-// The mark of a byte that is read in a mode.
-pub(crate) fn mark_of(mode: Mode, b: u8) -> Mark
-    ensures { λ r. ⌜ r ≡ mark-of mode b ⌝ }
-{
-    if is_character(b) {
-        return mark_in(mode);
-    }
-    Mark::Structure
-}
-
-pub(crate) fn is_position(mark: Mark) -> bool
+fn is_position(mark: Mark) -> bool
     ensures { λ r. ⌜ r ≡ is-position mark ⌝ }
 {
     match mark {
@@ -74,36 +70,73 @@ pub(crate) fn is_field_position(mark: Mark) -> bool
     }
 }
 
+// The first character positions from a place on.
+pub(crate) fn run_at(s: &[u8], start: usize, within: Place, begun: Seen) -> Run
+    requires { ⌜ start ≤ length (now s) ⌝ }
+    ensures { λ r. ⌜ Runs (now (s .entry)) start within begun r ⌝ }
+{
+    let mut at = start;
+    let mut place = within;
+    let mut seen = begun;
+    loop {
+        let found = piece_at(s, at, place, seen);
+        match found {
+            Token::Read { item, next } => {
+                place = behind(item);
+                seen = counted(item, seen);
+                let mark = item_mark(item);
+                if is_position(mark) {
+                    return Run::Found {
+                        mark,
+                        from: at,
+                        to: next,
+                        place,
+                        seen,
+                    };
+                }
+                at = next;
+            }
+            Token::Ends => {
+                return Run::None;
+            }
+            Token::Unfit(_) => {
+                return Run::None;
+            }
+        }
+    }
+}
+
 // How many character positions the external fields of a content have.
 pub fn field_positions(s: &[u8]) -> usize
     ensures { λ r. ⌜ r ≡ field-positions (now (s .entry)) ⌝ }
 {
-    let mut mode = begin();
     let mut count = 0;
-    let mut i = 0;
-    while i < s.len() {
-        let b = s[i];
-        if is_field_position(mark_of(mode, b)) {
-            count += 1;
+    let mut at = 0;
+    let mut place = Place::Content;
+    let mut seen = Seen {
+        lines: 0,
+        fields: 0,
+    };
+    loop {
+        let run = run_at(s, at, place, seen);
+        match run {
+            Run::Found {
+                mark,
+                from,
+                to,
+                place: inside,
+                seen: counts,
+            } => {
+                if is_field_position(mark) {
+                    count += to - from;
+                }
+                at = to;
+                place = inside;
+                seen = counts;
+            }
+            Run::None => {
+                return count;
+            }
         }
-        mode = step(mode, b);
-        i += 1;
     }
-    count
-}
-
-// Whether the byte at an address is a character position; behind the content there is none.
-pub fn position_at(s: &[u8], address: usize) -> bool
-    ensures { λ r. ⌜ r ≡ position-at (now (s .entry)) address ⌝ }
-{
-    if s.len() <= address {
-        return false;
-    }
-    let mut mode = begin();
-    let mut i = 0;
-    while i < address {
-        mode = step(mode, s[i]);
-        i += 1;
-    }
-    is_position(mark_of(mode, s[address]))
 }

@@ -1,35 +1,26 @@
-// The strip of a content: its length first, then, where it fits, its bytes.
+// The strip of a content: each item replaced by what it stands for, in one walk by the item reader.
 use crate::byte::Code;
-use crate::byte::Coded;
-use crate::byte::code_of;
-use crate::machine::Mode;
-use crate::machine::Place;
-use crate::machine::Spot;
-use crate::machine::begin;
-use crate::machine::step;
+use crate::byte::byte_at;
+use crate::item::Item;
+use crate::item::Place;
+use crate::item::Seen;
+use crate::item::Token;
+use crate::item::behind;
+use crate::item::counted;
+use crate::item::token_at;
+use crate::test::MESSAGE;
 use crate::test::is_content;
 use frame::build::lay;
-ghost use Prim.Native.Nat.{_+_, _≤_};
-ghost use lib.ListN.{drop, getD, length, take};
-ghost use mathlib.Core.List.{_++_};
+ghost use Prim.Native.Nat.{_+_, _*_, _≤_};
+ghost use lib.ListN.{length};
 ghost use mathlib.Core.Path.{_≡_};
-ghost use Rattle.content.specs.Strip.{Strips, bytes-of, character-of, printed, shown-at, shown-by, shown-inside, strip};
+ghost use Rattle.content.specs.Strip.{Puts, Strips, character-in, item-shows, printed, put-at, strip};
 ghost use Rattle.frame.specs.Ground.{over};
 
-// What items stand for: the counter's digits, and the entries of the moment.
+// What items stand for: the counter's digits, and for the date codes from 55h on a byte each.
 pub struct Values {
     pub digits: [u8; 9],
-    pub hour: [u8; 3],
-    pub minute: [u8; 3],
-    pub month: [u8; 3],
-    pub day: [u8; 3],
-}
-
-// What a byte of the content shows in the strip.
-pub enum Shown {
-    Nothing,
-    Byte(u8),
-    Digits,
+    pub entries: [u8; 24],
 }
 
 pub enum Stripped {
@@ -41,38 +32,12 @@ pub enum Stripped {
     Written(usize),
 }
 
-// A character of an entry; an entry has three.
-fn entry_at(entry: [u8; 3], k: u8) -> u8
-    ensures { λ r. ⌜ r ≡ getD entry k 0 ⌝ }
-{
-    let i = k as usize;
-    if i < 3 {
-        return entry[i];
-    }
-    0
-}
-
 // What a code of a date item stands for.
-fn character_of(values: Values, code: Code) -> u8
-    ensures { λ r. ⌜ r ≡ character-of values code ⌝ }
+fn character_in(entries: &[u8], code: Code) -> u8
+    ensures { λ r. ⌜ r ≡ character-in (now (entries .entry)) code ⌝ }
 {
     match code {
-        Code::Hour(k) => {
-            let entry = values.hour;
-            entry_at(entry, k)
-        }
-        Code::Minute(k) => {
-            let entry = values.minute;
-            entry_at(entry, k)
-        }
-        Code::Month(k) => {
-            let entry = values.month;
-            entry_at(entry, k)
-        }
-        Code::Day(k) => {
-            let entry = values.day;
-            entry_at(entry, k)
-        }
+        Code::Entry(k) => byte_at(entries, k as usize),
         Code::Colon => 0x3A,
         Code::Slash => 0x2F,
         Code::Dot => 0x2E,
@@ -80,148 +45,96 @@ fn character_of(values: Values, code: Code) -> u8
     }
 }
 
+// Writes bytes at a place of the buffer, and hands back the place behind them.
+fn put(out: &mut [u8], to: usize, bytes: &[u8]) -> usize
+    requires { ⌜ to + length (now bytes) ≤ length (now out) ⌝ }
+    ensures { λ r. ⌜ (r ≡ to + length (now (bytes .entry))) × (now (out .exit) ≡ put-at to (now (bytes .entry)) (now (out .entry))) ⌝ }
+{
+    lay(&mut out[to..], bytes);
+    to + bytes.len()
+}
+
 // 00h prints nothing.
-fn printed(b: u8) -> Shown
-    ensures { λ r. ⌜ r ≡ printed b ⌝ }
+fn put_printed(out: &mut [u8], to: usize, b: u8) -> usize
+    requires { ⌜ to + length (printed b) ≤ length (now out) ⌝ }
+    ensures { λ r. ⌜ (r ≡ to + length (printed b)) × (now (out .exit) ≡ put-at to (printed b) (now (out .entry))) ⌝ }
 {
     if b == 0x00 {
-        return Shown::Nothing;
+        return to;
     }
-    Shown::Byte(b)
+    out[to] = b;
+    to + 1
 }
 
-fn shown_code(values: Values, b: u8) -> Shown
-    ensures { λ r. ⌜ r ≡ shown-inside values Place.Date b ⌝ }
+// Writes what an item stands for, whose own bytes are given.
+fn put_item(
+    out: &mut [u8],
+    to: usize,
+    item: Item,
+    bytes: &[u8],
+    digits: &[u8],
+    entries: &[u8],
+) -> usize
+    requires { ⌜ to + length (item-shows (now digits) (now entries) item (now bytes)) ≤ length (now out) ⌝ }
+    ensures { λ r. ⌜ (r ≡ to + length (item-shows (now (digits .entry)) (now (entries .entry)) item (now (bytes .entry)))) × (now (out .exit) ≡ put-at to (item-shows (now (digits .entry)) (now (entries .entry)) item (now (bytes .entry))) (now (out .entry))) ⌝ }
 {
-    if b == 0x1B {
-        return Shown::Nothing;
-    }
-    let coded = code_of(b);
-    match coded {
-        Coded::Code(code) => printed(character_of(values, code)),
-        Coded::Not => Shown::Nothing,
-    }
-}
-
-fn shown_in_block(values: Values, b: u8) -> Shown
-    ensures { λ r. ⌜ r ≡ shown-inside values Place.Block b ⌝ }
-{
-    if b == 0x12 {
-        return Shown::Nothing;
-    }
-    if b == 0x1B {
-        return Shown::Nothing;
-    }
-    if b == 0x1C {
-        return Shown::Nothing;
-    }
-    Shown::Byte(b)
-}
-
-fn shown_in_field(values: Values, b: u8) -> Shown
-    ensures { λ r. ⌜ r ≡ shown-inside values Place.Field b ⌝ }
-{
-    if b == 0x12 {
-        return Shown::Nothing;
-    }
-    Shown::Byte(b)
-}
-
-fn shown_inside(values: Values, place: Place, b: u8) -> Shown
-    ensures { λ r. ⌜ r ≡ shown-inside values place b ⌝ }
-{
-    match place {
-        Place::Block => shown_in_block(values, b),
-        Place::Field => shown_in_field(values, b),
-        Place::Date => shown_code(values, b),
+    match item {
+        Item::LineOpens => put(out, to, bytes),
+        Item::BlockOpens => put(out, to, bytes),
+        Item::Characters => put(out, to, bytes),
+        Item::FieldCharacters => put(out, to, bytes),
+        Item::Tabulation(_) => put(out, to, bytes),
+        Item::Counter(_) => put(out, to, digits),
+        Item::FieldOpens => to,
+        Item::FieldCloses => to,
+        Item::DateOpens => to,
+        Item::Date(code) => put_printed(out, to, character_in(entries, code)),
+        Item::DateCloses => to,
     }
 }
 
-fn shown_at(values: Values, spot: Spot, b: u8) -> Shown
-    ensures { λ r. ⌜ r ≡ shown-at values spot b ⌝ }
-{
-    match spot {
-        Spot::Line => Shown::Byte(b),
-        Spot::Expansion => Shown::Byte(b),
-        Spot::Font => Shown::Byte(b),
-        Spot::Inside(place) => shown_inside(values, place, b),
-        Spot::TabulationCount => Shown::Byte(b),
-        Spot::TabulationEnd => Shown::Byte(b),
-        Spot::CounterNumber => Shown::Digits,
-        Spot::CounterEnd => Shown::Nothing,
-    }
-}
-
-// What a byte that is read in a mode shows.
-fn shown_by(values: Values, mode: Mode, b: u8) -> Shown
-    ensures { λ r. ⌜ r ≡ shown-by values mode b ⌝ }
-{
-    match mode {
-        Mode::Reading(spot, _) => shown_at(values, spot, b),
-        Mode::Done => Shown::Nothing,
-        Mode::Bad => Shown::Nothing,
-    }
-}
-
-// How many bytes that is.
-fn width(values: Values, shown: Shown) -> usize
-    ensures { λ r. ⌜ (r ≡ length (bytes-of values shown)) × (r ≤ 9) ⌝ }
-{
-    match shown {
-        Shown::Nothing => 0,
-        Shown::Byte(_) => 1,
-        Shown::Digits => 9,
-    }
-}
-
-fn strip_length(s: &[u8], values: Values) -> usize
-    requires { ⌜ length (now s) ≤ 512 ⌝ }
-    ensures { λ r. ⌜ r ≡ length (strip values (now (s .entry))) ⌝ }
-{
-    let mut mode = begin();
-    let mut n = 0;
-    let mut i = 0;
-    while i < s.len() {
-        let b = s[i];
-        n += width(values, shown_by(values, mode, b));
-        mode = step(mode, b);
-        i += 1;
-    }
-    n
-}
-
-// Writes what a byte shows at a place of the buffer, and hands back the place behind it.
-fn put(out: &mut [u8], at: usize, values: Values, shown: Shown) -> usize
-    requires { ⌜ at + length (bytes-of values shown) ≤ length (now out) ⌝ }
-    ensures { λ r. ⌜ (r ≡ at + length (bytes-of values shown)) × (now (out .exit) ≡ take at (now (out .entry)) ++ (bytes-of values shown ++ drop (at + length (bytes-of values shown)) (now (out .entry)))) ⌝ }
-{
-    match shown {
-        Shown::Nothing => at,
-        Shown::Byte(b) => {
-            out[at] = b;
-            at + 1
-        }
-        Shown::Digits => {
-            let digits = values.digits;
-            lay(&mut out[at..], &digits);
-            at + 9
-        }
-    }
-}
-
-fn put_strip(s: &[u8], values: Values, out: &mut [u8])
+// Writes the strip of any bytes over the front of a buffer that has room for it, and hands back its length.
+fn write(s: &[u8], values: Values, out: &mut [u8]) -> usize
     requires { ⌜ length (strip values (now s)) ≤ length (now out) ⌝ }
-    ensures { λ _. ⌜ now (out .exit) ≡ over (strip values (now (s .entry))) (now (out .entry)) ⌝ }
+    ensures { λ r. ⌜ (r ≡ length (strip values (now (s .entry)))) × (now (out .exit) ≡ over (strip values (now (s .entry))) (now (out .entry))) ⌝ }
 {
-    let mut mode = begin();
+    let digits = values.digits;
+    let entries = values.entries;
+    let mut to = 0;
     let mut at = 0;
-    let mut i = 0;
-    while i < s.len() {
-        let b = s[i];
-        at = put(out, at, values, shown_by(values, mode, b));
-        mode = step(mode, b);
-        i += 1;
+    let mut place = Place::Content;
+    let mut seen = Seen {
+        lines: 0,
+        fields: 0,
+    };
+    loop {
+        let found = token_at(s, at, place, seen);
+        match found {
+            Token::Read { item, next } => {
+                to = put_item(out, to, item, &s[at..next], &digits, &entries);
+                at = next;
+                place = behind(item);
+                seen = counted(item, seen);
+            }
+            Token::Ends => {
+                out[to] = 0x0D;
+                return to + 1;
+            }
+            Token::Unfit(_) => {
+                return to;
+            }
+        }
     }
+}
+
+// Writes the strip of any bytes over the front of a buffer of three times their length, which is room enough for every strip.
+pub fn put_strip(s: &[u8], values: Values, out: &mut [u8]) -> Stripped
+    ensures { λ r. ⌜ Puts values (now (s .entry)) (now (out .entry)) r (now (out .exit)) ⌝ }
+{
+    if out.len() / 3 < s.len() {
+        return Stripped::Short;
+    }
+    Stripped::Written(write(s, values, out))
 }
 
 // Writes the strip of a content over the front of a buffer; what is no content or doesn't fit writes nothing.
@@ -231,10 +144,11 @@ pub fn write_strip(s: &[u8], values: Values, out: &mut [u8]) -> Stripped
     if !is_content(s) {
         return Stripped::NoContent;
     }
-    let n = strip_length(s, values);
+    let mut whole = [0u8; 3 * MESSAGE];
+    let n = write(s, values, &mut whole);
     if out.len() < n {
         return Stripped::Short;
     }
-    put_strip(s, values, out);
+    lay(out, &whole[0..n]);
     Stripped::Written(n)
 }

@@ -2,12 +2,17 @@
 use crate::byte::byte_at;
 use crate::byte::is_count;
 use crate::byte::is_expansion;
+use crate::byte::kind_of;
+use crate::item::LINES;
+use crate::item::Seen;
 use crate::item::Token;
-use crate::item::token_at;
-use crate::machine::Place;
-use crate::machine::Seen;
+use crate::item::item_at;
+use crate::item::passed;
 ghost use mathlib.Core.Path.{_≡_};
 ghost use Rattle.content.specs.Content.{Reads, Tests, is-content};
+
+// The longest message.
+pub const MESSAGE: usize = 512;
 
 pub enum Verdict {
     Good,
@@ -39,19 +44,12 @@ pub(crate) fn read(s: &[u8]) -> Verdict
                 break 'content;
             }
             at += 1;
-            let mut place = Place::Block;
             'block: loop {
-                let found = token_at(s, at, place, seen);
+                let found = item_at(s, at, kind_of(byte_at(s, at)), seen);
                 match found {
-                    Token::Read {
-                        item: _,
-                        next,
-                        place: inside,
-                        seen: counts,
-                    } => {
+                    Token::Read { item, next } => {
                         at = next;
-                        place = inside;
-                        seen = counts;
+                        seen = passed(item, seen);
                     }
                     Token::Ends => {
                         break 'block;
@@ -75,7 +73,7 @@ pub(crate) fn read(s: &[u8]) -> Verdict
             break 'content;
         }
         let lines = seen.lines;
-        if 4 <= lines {
+        if LINES <= lines {
             break 'content;
         }
         seen.lines = lines + 1;
@@ -88,7 +86,7 @@ pub(crate) fn read(s: &[u8]) -> Verdict
 pub fn is_content(s: &[u8]) -> bool
     ensures { λ r. ⌜ r ≡ is-content (now (s .entry)) ⌝ }
 {
-    if 512 < s.len() {
+    if MESSAGE < s.len() {
         return false;
     }
     let verdict = read(s);

@@ -1,14 +1,13 @@
 // The field update, as far as one content goes: every check stands before the first write.
 use crate::byte::all_characters;
-use crate::machine::begin;
-use crate::machine::step;
+use crate::item::Place;
+use crate::item::Seen;
+use crate::position::Run;
 use crate::position::is_field_position;
-use crate::position::mark_of;
-ghost use lib.ListN.{drop};
+use crate::position::run_at;
+ghost use lib.ListN.{drop, length};
 ghost use mathlib.Core.Path.{_≡_};
-ghost use Rattle.content.specs.Machine.{start};
-ghost use Rattle.content.specs.Position.{field-positions};
-ghost use Rattle.content.specs.Update.{Updates, laid, next-of};
+ghost use Rattle.content.specs.Update.{Laying, Updates, fitted, next-of};
 
 pub enum Updated {
     // How many field positions the content has.
@@ -38,23 +37,52 @@ fn next_of(text: &[u8], at: usize) -> u8
     0x20
 }
 
-// Lays the text over the field positions, and counts them.
-fn lay_text(s: &mut [u8], text: &[u8]) -> usize
-    ensures { λ r. ⌜ (r ≡ field-positions (now (s .entry))) × (now (s .exit) ≡ laid (now (text .entry)) start (now (s .entry))) ⌝ }
+// Makes a part of a content the front of a text, with spaces behind its end.
+fn fill(part: &mut [u8], text: &[u8])
+    ensures { λ _. ⌜ now (part .exit) ≡ fitted (length (now (part .entry))) (now (text .entry)) ⌝ }
 {
-    let mut mode = begin();
-    let mut count = 0;
     let mut i = 0;
-    while i < s.len() {
-        let b = s[i];
-        if is_field_position(mark_of(mode, b)) {
-            s[i] = next_of(text, count);
-            count += 1;
-        }
-        mode = step(mode, b);
+    while i < part.len() {
+        part[i] = next_of(text, i);
         i += 1;
     }
-    count
+}
+
+// Lays a text, from one of its characters on, over the field positions, and counts them; it doesn't ask what the text is of.
+pub fn lay_text(s: &mut [u8], text: &[u8], from: usize) -> usize
+    ensures { λ r. ⌜ Laying (now (s .entry)) (now (text .entry)) from r (now (s .exit)) ⌝ }
+{
+    let rest = behind(text, from);
+    let mut count = 0;
+    let mut at = 0;
+    let mut place = Place::Content;
+    let mut seen = Seen {
+        lines: 0,
+        fields: 0,
+    };
+    loop {
+        let run = run_at(s, at, place, seen);
+        match run {
+            Run::Found {
+                mark,
+                from: first,
+                to,
+                place: inside,
+                seen: counts,
+            } => {
+                if is_field_position(mark) {
+                    fill(&mut s[first..to], behind(rest, count));
+                    count += to - first;
+                }
+                at = to;
+                place = inside;
+                seen = counts;
+            }
+            Run::None => {
+                return count;
+            }
+        }
+    }
 }
 
 // Lays a text, from one of its characters on, over the field positions of a content.
@@ -64,5 +92,5 @@ pub fn update(s: &mut [u8], text: &[u8], from: usize) -> Updated
     if !all_characters(text) {
         return Updated::NoCharacter;
     }
-    Updated::Laid(lay_text(s, behind(text, from)))
+    Updated::Laid(lay_text(s, text, from))
 }

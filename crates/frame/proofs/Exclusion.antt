@@ -11,13 +11,13 @@ use lib.Dec.{eqb, leb, ltb, leb·suc-suc}
 use lib.ListN.{length, getD, take}
 use lib.Seq.{take-all}
 use Rattle.frame.specs.Ground.{pick}
-use Rattle.frame.specs.Wire.{enquiry, update-opens, update-closes}
+use Rattle.frame.specs.Wire.{enquiry, update-opens, update-closes, longest-update, update-marks, around, longest-data}
 use Rattle.frame.specs.Receive.{received, updated, framed, run, text-space, data-length, number}
 use Rattle.frame.specs.Laws.{has, not-whole, too-long, ThreeFourApart, NumbersGiven}
 use Rattle.frame.specs.declared.receive.Received.{Received}
 use Rattle.frame.specs.declared.receive.Received.the-variants.{Partial, Refused, Enquiry, Update}
-use Rattle.frame.proofs.Laws.{pick-case}
-use Rattle.frame.proofs.Whole.{checked, checked-case}
+use Rattle.frame.proofs.Ground.{pick-case}
+use Rattle.frame.proofs.Whole.{verified, verified-case}
 
 -- ---- Numbers as tests.
 exactly : (k m : ℕ) (b : Bool) → eqb k m ≡ b → (k ≡ m) ↔ (b ≡ true)
@@ -61,18 +61,18 @@ update-numbers false true n c k = (refl, refl)
 update-numbers false false n c k = (refl, refl)
 
 module _ (x : ℕ) (s : List ℕ) (e : x ≡ update-opens) where
-  update-three : eqb (number (updated (x ∷ s) (run update-closes (text-space (x ∷ s))))) 3 ≡ (ltb (length (x ∷ s)) 1024 && not (has update-closes (x ∷ s)))
+  update-three : eqb (number (updated (x ∷ s) (run update-closes (text-space (x ∷ s))))) 3 ≡ (ltb (length (x ∷ s)) (longest-update + update-marks) && not (has update-closes (x ∷ s)))
   unfolding updated
   update-three =
-      update-numbers (ltb (run update-closes (text-space (x ∷ s))) (length (text-space (x ∷ s)))) (ltb (length (x ∷ s)) 1024) _ _ _ .0
-      ∙ ap (λ (b : Bool). ltb (length (x ∷ s)) 1024 && not b) (run-has update-closes (text-space (x ∷ s)))
-      ∙ same-where (ltb (length (x ∷ s)) 1024) _ _ (λ q. ap (has update-closes) (take-all 1023 s (omega (arith, ltb-true (length (x ∷ s)) 1024 q))) ∙ sym (opened-has x s e))
+      update-numbers (ltb (run update-closes (text-space (x ∷ s))) (length (text-space (x ∷ s)))) (ltb (length (x ∷ s)) (longest-update + update-marks)) _ _ _ .0
+      ∙ ap (λ (b : Bool). ltb (length (x ∷ s)) (longest-update + update-marks) && not b) (run-has update-closes (text-space (x ∷ s)))
+      ∙ same-where (ltb (length (x ∷ s)) (longest-update + update-marks)) _ _ (λ q. ap (has update-closes) (take-all (longest-update + 1) s (omega (arith, ltb-true (length (x ∷ s)) (longest-update + update-marks) q))) ∙ sym (opened-has x s e))
 
-  update-four : eqb (number (updated (x ∷ s) (run update-closes (text-space (x ∷ s))))) 4 ≡ (leb 1024 (length (x ∷ s)) && not (has update-closes (take 1024 (x ∷ s))))
+  update-four : eqb (number (updated (x ∷ s) (run update-closes (text-space (x ∷ s))))) 4 ≡ (leb (longest-update + update-marks) (length (x ∷ s)) && not (has update-closes (take (longest-update + update-marks) (x ∷ s))))
   unfolding updated
   update-four =
-      update-numbers (ltb (run update-closes (text-space (x ∷ s))) (length (text-space (x ∷ s)))) (ltb (length (x ∷ s)) 1024) _ _ _ .1
-      ∙ ap₂ (λ (a b : Bool). a && not b) (sym (at-most 1024 (length (x ∷ s)))) (run-has update-closes (text-space (x ∷ s)) ∙ sym (opened-has x (take 1023 s) e))
+      update-numbers (ltb (run update-closes (text-space (x ∷ s))) (length (text-space (x ∷ s)))) (ltb (length (x ∷ s)) (longest-update + update-marks)) _ _ _ .1
+      ∙ ap₂ (λ (a b : Bool). a && not b) (sym (at-most (longest-update + update-marks) (length (x ∷ s)))) (run-has update-closes (text-space (x ∷ s)) ∙ sym (opened-has x (take (longest-update + 1) s) e))
 
 -- ---- A frame.
 frame-numbers : (a b c : Bool) (r : Received) (k : ℕ) → eqb (number r) 3 ≡ false → eqb (number r) 4 ≡ false
@@ -82,24 +82,24 @@ frame-numbers false true c r k three four = (refl, refl)
 frame-numbers false false true r k three four = (refl, refl)
 frame-numbers false false false r k three four = (three, four)
 
-checked-three : (s : List ℕ) (n : ℕ) → eqb (number (checked s n)) 3 ≡ false
-checked-three s n = checked-case (λ (r : Received). eqb (number r) 3 ≡ false) s n refl (λ i. refl) (λ i. refl) (λ i. refl)
+verified-three : (s : List ℕ) (n : ℕ) → eqb (number (verified s n)) 3 ≡ false
+verified-three s n = verified-case (λ (r : Received). eqb (number r) 3 ≡ false) s n refl (λ i. refl) (λ i. refl) (λ i. refl)
 
-checked-four : (s : List ℕ) (n : ℕ) → eqb (number (checked s n)) 4 ≡ false
-checked-four s n = checked-case (λ (r : Received). eqb (number r) 4 ≡ false) s n refl (λ i. refl) (λ i. refl) (λ i. refl)
+verified-four : (s : List ℕ) (n : ℕ) → eqb (number (verified s n)) 4 ≡ false
+verified-four s n = verified-case (λ (r : Received). eqb (number r) 4 ≡ false) s n refl (λ i. refl) (λ i. refl) (λ i. refl)
 
 module _ (s : List ℕ) (n : ℕ) where
-  frame-three : eqb (number (framed s n)) 3 ≡ (ltb (length s) 3 || (leb n 550 && ltb (length s) (n + 4)))
-  unfolding framed checked
+  frame-three : eqb (number (framed s n)) 3 ≡ (ltb (length s) 3 || (leb n longest-data && ltb (length s) (n + around)))
+  unfolding framed verified
   frame-three =
-      frame-numbers (ltb (length s) 3) (ltb 550 n) (ltb (length s) (n + 4)) (checked s n) (length s) (checked-three s n) (checked-four s n) .0
-      ∙ ap (λ (b : Bool). ltb (length s) 3 || (b && ltb (length s) (n + 4))) (sym (at-most n 550))
+      frame-numbers (ltb (length s) 3) (ltb longest-data n) (ltb (length s) (n + around)) (verified s n) (length s) (verified-three s n) (verified-four s n) .0
+      ∙ ap (λ (b : Bool). ltb (length s) 3 || (b && ltb (length s) (n + around))) (sym (at-most n longest-data))
 
-  frame-four : eqb (number (framed s n)) 4 ≡ (leb 3 (length s) && ltb 550 n)
-  unfolding framed checked
+  frame-four : eqb (number (framed s n)) 4 ≡ (leb 3 (length s) && ltb longest-data n)
+  unfolding framed verified
   frame-four =
-      frame-numbers (ltb (length s) 3) (ltb 550 n) (ltb (length s) (n + 4)) (checked s n) (length s) (checked-three s n) (checked-four s n) .1
-      ∙ ap (λ (b : Bool). b && ltb 550 n) (sym (at-most 3 (length s)))
+      frame-numbers (ltb (length s) 3) (ltb longest-data n) (ltb (length s) (n + around)) (verified s n) (length s) (verified-three s n) (verified-four s n) .1
+      ∙ ap (λ (b : Bool). b && ltb longest-data n) (sym (at-most 3 (length s)))
 
 -- ---- All that can be handed in.
 sorted : (m : ℕ) (p : Bool) → eqb 3 m ≡ p → eqb 0 m ≡ false → (a b c : Bool) (u f : Received) (wu wf : Bool) → (c ≡ true → eqb (number u) m ≡ wu) → eqb (number f) m ≡ wf
@@ -138,15 +138,15 @@ Given r = has (number r) (0 ∷ 3 ∷ 4 ∷ 5 ∷ 6 ∷ 7 ∷ []) ≡ true
 
 given-updated : (s : List ℕ) (n : ℕ) → Given (updated s n)
 unfolding updated Given
-given-updated s n = pick-case Given (ltb n (length (text-space s))) _ _ (λ e. refl) (λ e. pick-case Given (ltb (length s) 1024) _ _ (λ h. refl) (λ h. refl))
+given-updated s n = pick-case Given (ltb n (length (text-space s))) _ _ (λ e. refl) (λ e. pick-case Given (ltb (length s) (longest-update + update-marks)) _ _ (λ h. refl) (λ h. refl))
 
 given-framed : (s : List ℕ) (n : ℕ) → Given (framed s n)
-unfolding framed checked Given
+unfolding framed verified Given
 given-framed s n =
     pick-case Given (ltb (length s) 3) _ _ (λ e. refl) (λ e.
-    pick-case Given (ltb 550 n) _ _ (λ h. refl) (λ h.
-    pick-case Given (ltb (length s) (n + 4)) _ _ (λ g. refl) (λ g.
-    checked-case Given s n refl (λ i. refl) (λ i. refl) (λ i. refl))))
+    pick-case Given (ltb longest-data n) _ _ (λ h. refl) (λ h.
+    pick-case Given (ltb (length s) (n + around)) _ _ (λ g. refl) (λ g.
+    verified-case Given s n refl (λ i. refl) (λ i. refl) (λ i. refl))))
 
 pub numbers-given : NumbersGiven
 unfolding received Given

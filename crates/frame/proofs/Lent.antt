@@ -6,7 +6,7 @@ use native.Mathlib.Omega.{arith}
 use borrow.Rule.Slice.PartMut.{midOf, putMid}
 use lib.ListN.{length, length-append, length-drop}
 use Rattle.frame.specs.Ground.{over}
-use Rattle.frame.proofs.Laws.{length-over, lent-tail, left-behind}
+use Rattle.frame.proofs.Ground.{length-over, lent-tail, left-behind}
 
 -- w, of a bytes, is laid over the front of a buffer that has room for it.
 pub record Laid (a : ℕ) (w before after : List ℕ) : Type 0 where

@@ -1,9 +1,13 @@
--- `Laws` has what the proofs of all three crates share, `Heard` what the receiver's rule tells of what it gives, `Lent` a buffer that is
--- lent part by part; `Samples` computes the rules on samples, and `Whole`, `Exclusion` and `Once` prove what specs/Laws.antt states.
-pub mod Laws
+-- `Ground` has what the proofs of all three crates share, `Heard` what the receiver's rule tells of what it gives, `Told` what
+-- the builder's does, `Lent` a buffer that is
+-- lent part by part; `Samples` computes the rules on samples. `Laws` has the proofs of what specs/Laws.antt states, made in `Whole`,
+-- `Exclusion` and `Once`.
+pub mod Ground
 pub mod Heard
 pub mod Lent
+pub mod Told
 pub mod Samples
 pub mod Whole
 pub mod Exclusion
 pub mod Once
+pub mod Laws

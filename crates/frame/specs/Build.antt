@@ -3,12 +3,12 @@ use Prim.Native.Nat.{ℕ, _+_}
 use mathlib.Core.Bool.{Bool}
 use mathlib.Core.List.{List, [], _∷_, _++_}
 use mathlib.Core.Path.{_≡_}
-use lib.Dec.{leb, ltb}
-use lib.ListN.{length}
-use Rattle.frame.specs.Ground.{pick, unless, over}
-use Rattle.frame.specs.Wire.{high, low, check, size-of, listed}
+use lib.Dec.{leb}
+use lib.ListN.{length, take, drop}
+use Rattle.frame.specs.Ground.{pick, Test, test, checked, first-failing, over}
+use Rattle.frame.specs.Wire.{high, low, check, head-size, around, longest-data, size-of, listed}
 use Rattle.frame.specs.declared.build.Built.{Built}
-use Rattle.frame.specs.declared.build.Built.the-variants.{Short, TooLong, Unknown, Written}
+use Rattle.frame.specs.declared.build.Built.the-variants.{Refused, Written}
 
 -- 01, On the wire: "A frame is identifier (1 byte), length (2), data, check byte."
 abbrev pub head : ℕ → ℕ → List ℕ
@@ -20,48 +20,65 @@ body identifier d = head identifier (length d) ++ d
 unfoldable pub frame : ℕ → List ℕ → List ℕ
 frame identifier d = body identifier d ++ (check (body identifier d) ∷ [])
 
--- 01, Other calls: "2 if the buffer is under data + 4, 4 if data is over 550, [..] nothing written; else its length".
--- So an answer is written too, whose identifier need not stand in the table.
-unfoldable pub answered : ℕ → ℕ → Built
-answered room n = pick (ltb room (n + 4)) Short (pick (ltb 550 n) TooLong (Written (n + 4)))
+-- 01, Other calls: "2 if the buffer is under data + 4, 4 if data is over 550, 6 if the identifier is not in the table".
+-- An answer's identifier need not stand in the table.
+abbrev pub answer-tests : ℕ → ℕ → List Test
+answer-tests room n =
+    test (leb (n + around) room) 2
+    ∷ test (leb n longest-data) 4
+    ∷ []
 
--- 01, Other calls: "6 if the identifier is not in the table".
+abbrev pub build-tests : ℕ → ℕ → ℕ → List Test
+build-tests room identifier n = answer-tests room n ++ (test (listed (size-of identifier)) 6 ∷ [])
+
+-- 01, Other calls: "nothing written; else its length".
+abbrev pub given : List Test → ℕ → Built
+given tests n = checked tests (λ refusal. Refused (refusal .number)) (Written (n + around))
+
+unfoldable pub answered : ℕ → ℕ → Built
+answered room n = given (answer-tests room n) n
+
 unfoldable pub built : ℕ → ℕ → ℕ → Built
-built room identifier n =
-    pick (ltb room (n + 4)) Short
-    (pick (ltb 550 n) TooLong (unless (listed (size-of identifier)) Unknown (Written (n + 4))))
+built room identifier n = given (build-tests room identifier n) n
 
 -- The bytes that an answer of the builder says are written.
 abbrev pub bytes-of : Built → ℕ → List ℕ → List ℕ
-bytes-of Short identifier d = []
-bytes-of TooLong identifier d = []
-bytes-of Unknown identifier d = []
+bytes-of (Refused k) identifier d = []
 bytes-of (Written n) identifier d = frame identifier d
 
--- 01, Other calls: the number of each case, and the length given back.
+-- Its number, and the length given back.
 abbrev pub number : Built → ℕ
-number Short = 2
-number TooLong = 4
-number Unknown = 6
+number (Refused k) = k
 number (Written n) = 0
 
 abbrev pub frame-length : Built → ℕ
-frame-length Short = 0
-frame-length TooLong = 0
-frame-length Unknown = 0
+frame-length (Refused k) = 0
 frame-length (Written n) = n
+
+-- 01, Numbers: "the first that applies is given"; 01, Other calls: "else its length", of just the bytes that are written.
+pub record Tells (tests : List Test) (bytes : List ℕ) (r : Built) : Type 0 where
+  pub first : number r ≡ first-failing tests
+  pub size : frame-length r ≡ length bytes
 
 -- The contract of `lay`: bytes that fit are laid over the front, others leave the buffer alone.
 pub record Lays (before bytes : List ℕ) (r : Bool) (after : List ℕ) : Type 0 where
   pub answer : r ≡ leb (length bytes) (length before)
   pub buffer : after ≡ over (pick (leb (length bytes) (length before)) bytes []) before
 
+-- The contract of `wrap`: the data that stands in the buffer from place 3 on becomes a frame.
+pub record Wraps (before : List ℕ) (identifier n : ℕ) (r : Built) (after : List ℕ) : Type 0 where
+  pub answer : r ≡ answered (length before) n
+  pub told : Tells (answer-tests (length before) n) (bytes-of r identifier (take n (drop head-size before))) r
+  pub buffer : after ≡ over (bytes-of r identifier (take n (drop head-size before))) before
+
 -- The contract of `answer`: the rule's answer, and over the buffer's front just the bytes it tells of.
 pub record Answers (before : List ℕ) (identifier : ℕ) (d : List ℕ) (r : Built) (after : List ℕ) : Type 0 where
   pub answer : r ≡ answered (length before) (length d)
+  pub told : Tells (answer-tests (length before) (length d)) (bytes-of r identifier d) r
   pub buffer : after ≡ over (bytes-of r identifier d) before
 
 -- The contract of `build`: the same, with the table.
 pub record Builds (before : List ℕ) (identifier : ℕ) (d : List ℕ) (r : Built) (after : List ℕ) : Type 0 where
   pub answer : r ≡ built (length before) identifier (length d)
+  pub told : Tells (build-tests (length before) identifier (length d)) (bytes-of r identifier d) r
   pub buffer : after ≡ over (bytes-of r identifier d) before

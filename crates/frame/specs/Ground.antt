@@ -1,7 +1,7 @@
 -- Words that the rules of all three crates share.
-use Prim.Native.Nat.{ℕ}
+use Prim.Native.Nat.{ℕ, _+_}
 use mathlib.Core.Bool.{Bool, true, false}
-use mathlib.Core.List.{List, _++_}
+use mathlib.Core.List.{List, [], _∷_, _++_}
 use lib.Dec.{leb}
 use lib.ListN.{length, drop}
 
@@ -19,6 +19,46 @@ unless false a b = a
 abbrev pub both : Bool → Bool → Bool
 both true b = b
 both false b = false
+
+-- A refusal: the number that is given.
+pub record Refusal : Type 0 where
+  pub number : ℕ
+
+-- A test, and the refusal of what fails it.
+pub record Test : Type 0 where
+  pub holds : Bool
+  pub otherwise : Refusal
+
+abbrev pub test : Bool → ℕ → Test
+test holds number = record { holds = holds; otherwise = record { number = number } }
+
+-- 01, Numbers: "Checked in this order; the first that applies is given, and none otherwise."
+abbrev pub checked : {A : Type 0} → List Test → (Refusal → A) → A → A
+checked [] refuse accept = accept
+checked (t ∷ ts) refuse accept = unless (t .holds) (refuse (t .otherwise)) (checked ts refuse accept)
+
+-- The number that they give; 0, done, where every test holds.
+abbrev pub first-failing : List Test → ℕ
+first-failing tests = checked tests (λ refusal. refusal .number) 0
+
+-- Every test holds, in no order.
+abbrev pub all : List Test → Bool
+all [] = true
+all (t ∷ ts) = both (t .holds) (all ts)
+
+-- What there are several of, numbered from n on: whether a test holds of every one, what each becomes, and all of them one behind the
+-- other.
+abbrev pub every : {A : Type 0} → (ℕ → A → Bool) → ℕ → List A → Bool
+every f n [] = true
+every f n (x ∷ xs) = both (f n x) (every f (n + 1) xs)
+
+abbrev pub each : {A B : Type 0} → (ℕ → A → B) → ℕ → List A → List B
+each f n [] = []
+each f n (x ∷ xs) = f n x ∷ each f (n + 1) xs
+
+abbrev pub joined : {A : Type 0} → List (List A) → List A
+joined [] = []
+joined (x ∷ xs) = x ++ joined xs
 
 -- A number from the first to the second.
 abbrev pub within : ℕ → ℕ → ℕ → Bool

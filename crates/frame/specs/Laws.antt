@@ -7,9 +7,9 @@ use mathlib.Core.Path.{_≡_}
 use lib.Dec.{eqb, leb, ltb}
 use lib.ListN.{length, getD, take, drop}
 use Rattle.frame.specs.Ground.{pick}
-use Rattle.frame.specs.Wire.{enquiry, update-opens, update-closes, size-of, listed, fits}
+use Rattle.frame.specs.Wire.{enquiry, update-opens, update-closes, longest-update, update-marks, head-size, around, longest-data, size-of, listed, fits}
 use Rattle.frame.specs.Receive.{received, data-length, number, consumed, Receives}
-use Rattle.frame.specs.Build.{frame, Lays, Answers, Builds}
+use Rattle.frame.specs.Build.{frame, Lays, Wraps, Answers, Builds}
 use Rattle.frame.specs.declared.receive.Received.{Received}
 use Rattle.frame.specs.declared.receive.Received.the-variants.{Partial, Refused, Misfit, Enquiry, Update, Frame}
 use Rattle.frame.specs.declared.build.Built.{Built}
@@ -23,23 +23,23 @@ pub data Heard : Type 0 where
 abbrev pub heard-in : List ℕ → Received → Heard
 heard-in s Partial = nothing
 heard-in s (Refused k c) = nothing
-heard-in s (Misfit k i n c) = heard i (take n (drop 3 s))
+heard-in s (Misfit k i n c) = heard i (take n (drop head-size s))
 heard-in s Enquiry = nothing
 heard-in s (Update n c) = nothing
-heard-in s (Frame i n c) = heard i (take n (drop 3 s))
+heard-in s (Frame i n c) = heard i (take n (drop head-size s))
 
 -- 01, Other calls: "Identifier and data are read back also where 7 to 13 then follow."
 pub record ReadsBack (s : List ℕ) (identifier : ℕ) (d : List ℕ) : Type 0 where
   pub answer :
       received s ≡
-      pick (fits (size-of identifier) (length d)) (Frame identifier (length d) (length d + 4)) (Misfit 7 identifier (length d) (length d + 4))
+      pick (fits (size-of identifier) (length d)) (Frame identifier (length d) (length d + around)) (Misfit 7 identifier (length d) (length d + around))
   pub gives : number (received s) ≡ pick (fits (size-of identifier) (length d)) 0 7
   pub hears : heard-in s (received s) ≡ heard identifier d
 
 -- A frame with an identifier of the table, whatever stands behind it.
 abbrev pub ReadBack : Type 0
 ReadBack =
-    (identifier : ℕ) (d rest : List ℕ) → listed (size-of identifier) ≡ true → length d ≤ 550
+    (identifier : ℕ) (d rest : List ℕ) → listed (size-of identifier) ≡ true → length d ≤ longest-data
     → ReadsBack (frame identifier d ++ rest) identifier d
 
 -- The bytes that `build` says it wrote.
@@ -55,6 +55,13 @@ AnswerReadBack =
     → (identifier ≡ enquiry → ⊥) → (identifier ≡ update-opens → ⊥)
     → Answers before identifier d (Written n) after → heard-in (take n after ++ rest) (received (take n after ++ rest)) ≡ heard identifier d
 
+-- The bytes that `wrap` says it wrote, around data that stood in the buffer.
+abbrev pub WrapReadBack : Type 0
+WrapReadBack =
+    (before : List ℕ) (identifier n m : ℕ) (after rest : List ℕ)
+    → (identifier ≡ enquiry → ⊥) → (identifier ≡ update-opens → ⊥)
+    → Wraps before identifier n (Written m) after → heard-in (take m after ++ rest) (received (take m after ++ rest)) ≡ heard identifier (take n (drop head-size before))
+
 -- 01, Numbers: consumed is "the frame, update or 05h". It is received the same whatever stands behind it, and what stands behind it is left as it came.
 pub record Whole (s : List ℕ) (r : Received) : Type 0 where
   pub inside : consumed r ≤ length s
@@ -65,7 +72,7 @@ abbrev pub ConsumedWhole : Type 0
 ConsumedWhole = (s : List ℕ) → (number (received s) ≡ 3 → ⊥) → (number (received s) ≡ 4 → ⊥) → Whole s (received s)
 
 abbrev pub FrameWhole : Type 0
-FrameWhole = (s : List ℕ) (i n c : ℕ) → received s ≡ Frame i n c → (c ≡ n + 4) × Whole s (Frame i n c)
+FrameWhole = (s : List ℕ) (i n c : ℕ) → received s ≡ Frame i n c → (c ≡ n + around) × Whole s (Frame i n c)
 
 abbrev pub ConsumedInside : Type 0
 ConsumedInside = (s : List ℕ) → consumed (received s) ≤ length s
@@ -81,16 +88,16 @@ unfoldable pub not-whole : List ℕ → Bool
 not-whole s =
     pick (eqb (length s) 0) true
     (pick (eqb (getD s 0 0) enquiry) false
-    (pick (eqb (getD s 0 0) update-opens) (ltb (length s) 1024 && not (has update-closes s))
-    (ltb (length s) 3 || (leb (data-length s) 550 && ltb (length s) (data-length s + 4)))))
+    (pick (eqb (getD s 0 0) update-opens) (ltb (length s) (longest-update + update-marks) && not (has update-closes s))
+    (ltb (length s) head-size || (leb (data-length s) longest-data && ltb (length s) (data-length s + around)))))
 
 -- 01, Numbers: 4 "length over 550; or 1,024 bytes from 02h on without 03h". "A 03h counts only within those 1,024 bytes."
 unfoldable pub too-long : List ℕ → Bool
 too-long s =
     pick (eqb (length s) 0) false
     (pick (eqb (getD s 0 0) enquiry) false
-    (pick (eqb (getD s 0 0) update-opens) (leb 1024 (length s) && not (has update-closes (take 1024 s)))
-    (leb 3 (length s) && ltb 550 (data-length s))))
+    (pick (eqb (getD s 0 0) update-opens) (leb (longest-update + update-marks) (length s) && not (has update-closes (take (longest-update + update-marks) s)))
+    (leb head-size (length s) && ltb longest-data (data-length s))))
 
 -- 01, Numbers: "3 and 4 exclude each other".
 pub record Apart (s : List ℕ) : Type 0 where
@@ -117,6 +124,11 @@ abbrev pub LayOnce : Type 0
 LayOnce =
     (before bytes : List ℕ) (r r′ : Bool) (after after′ : List ℕ)
     → Lays before bytes r after → Lays before bytes r′ after′ → (r ≡ r′) × (after ≡ after′)
+
+abbrev pub WrapOnce : Type 0
+WrapOnce =
+    (before : List ℕ) (identifier n : ℕ) (r r′ : Built) (after after′ : List ℕ)
+    → Wraps before identifier n r after → Wraps before identifier n r′ after′ → (r ≡ r′) × (after ≡ after′)
 
 abbrev pub AnswerOnce : Type 0
 AnswerOnce =

@@ -19,6 +19,13 @@ update-opens = 0x02
 abbrev pub update-closes : ℕ
 update-closes = 0x03
 
+abbrev pub longest-update : ℕ
+longest-update = 1022
+
+-- The 02h and the 03h: with them the longest update has 01's 1,024 bytes.
+abbrev pub update-marks : ℕ
+update-marks = 2
+
 -- 01, On the wire: "Numbers of several bytes have the high byte first."
 abbrev pub word : ℕ → ℕ → ℕ
 word high low = high * 256 + low
@@ -36,6 +43,17 @@ check-from c (b ∷ s) = check-from (bitXor c b) s
 
 abbrev pub check : List ℕ → ℕ
 check s = check-from 0 s
+
+-- 01, On the wire: "A frame is identifier (1 byte), length (2), data, check byte." Three bytes stand before the data, four around it.
+abbrev pub head-size : ℕ
+head-size = 3
+
+abbrev pub around : ℕ
+around = 4
+
+-- 01, Numbers: 4 "length over 550".
+abbrev pub longest-data : ℕ
+longest-data = 550
 
 -- 01, On the wire, the table: an identifier and its data length, "exactly so many" or "so many or more".
 pub record Row : Type 0 where

@@ -1,18 +1,45 @@
 // Frames are written over the front of a lent buffer; what doesn't fit is refused and nothing is written.
+use crate::wire::AROUND;
+use crate::wire::DATA;
+use crate::wire::HEAD;
 use crate::wire::check;
 use crate::wire::listed;
 use crate::wire::size_of;
-ghost use Rattle.frame.specs.Build.{Answers, Builds, Lays};
+ghost use Prim.Native.Nat.{_≤_};
+ghost use lib.ListN.{length};
+ghost use mathlib.Core.Path.{_≡_};
+ghost use Rattle.frame.specs.Ground.{over};
+ghost use Rattle.frame.specs.Build.{Answers, Builds, Lays, Wraps};
 
 pub enum Built {
-    // Number 2: the buffer is under data + 4.
-    Short,
-    // Number 4: the data is over 550.
-    TooLong,
-    // Number 6: the identifier is not in the table.
-    Unknown,
+    // Numbers 2, 4 and 6: the buffer is under data + 4, data is over 550, the identifier is not in the table.
+    Refused(u8),
     // The frame's length.
     Written(usize),
+}
+
+// Copies bytes over the front of a buffer that has room for them.
+fn copy(out: &mut [u8], bytes: &[u8])
+    requires { ⌜ length (now bytes) ≤ length (now out) ⌝ }
+    ensures { λ _. ⌜ now (out .exit) ≡ over (now (bytes .entry)) (now (out .entry)) ⌝ }
+{
+    let mut i = 0;
+    while i < bytes.len() {
+        out[i] = bytes[i];
+        i += 1;
+    }
+}
+
+// How many bytes are copied in a turn: a count that the compiler knows, through an array that overlaps nothing, so that it moves words.
+const TURN: usize = 16;
+
+fn copy_turn(out: &mut [u8], bytes: &[u8])
+    requires { ⌜ (length (now bytes) ≡ 16) × (16 ≤ length (now out)) ⌝ }
+    ensures { λ _. ⌜ now (out .exit) ≡ over (now (bytes .entry)) (now (out .entry)) ⌝ }
+{
+    let mut held = [0; TURN];
+    copy(&mut held, bytes);
+    copy(out, &held);
 }
 
 // Lays bytes over the front of a buffer, if they fit.
@@ -23,11 +50,33 @@ pub fn lay(out: &mut [u8], bytes: &[u8]) -> bool
         return false;
     }
     let mut i = 0;
-    while i < bytes.len() {
-        out[i] = bytes[i];
-        i += 1;
+    while i + TURN <= bytes.len() {
+        copy_turn(&mut out[i..], &bytes[i..i + TURN]);
+        i += TURN;
     }
+    copy(&mut out[i..], &bytes[i..]);
     true
+}
+
+// Writes the head and the check byte around n data bytes that stand in the buffer from place 3 on.
+pub fn wrap(out: &mut [u8], identifier: u8, n: usize) -> Built
+    ensures { λ r. ⌜ Wraps (now (out .entry)) identifier n r (now (out .exit)) ⌝ }
+{
+    if out.len() < AROUND {
+        return Built::Refused(2);
+    }
+    if out.len() - AROUND < n {
+        return Built::Refused(2);
+    }
+    if DATA < n {
+        return Built::Refused(4);
+    }
+    out[0] = identifier;
+    out[1] = (n / 256 % 256) as u8;
+    out[2] = (n % 256) as u8;
+    let c = check(&out[..n + HEAD]);
+    out[n + HEAD] = c;
+    Built::Written(n + AROUND)
 }
 
 // Writes a frame with any identifier: also one that stands only in answers, as 9Ch.
@@ -35,19 +84,14 @@ pub fn answer(out: &mut [u8], identifier: u8, bytes: &[u8]) -> Built
     ensures { λ r. ⌜ Answers (now (out .entry)) identifier (now (bytes .entry)) r (now (out .exit)) ⌝ }
 {
     let n = bytes.len();
-    if out.len() < n + 4 {
-        return Built::Short;
+    if out.len() < n + AROUND {
+        return Built::Refused(2);
     }
-    if 550 < n {
-        return Built::TooLong;
+    if DATA < n {
+        return Built::Refused(4);
     }
-    out[0] = identifier;
-    out[1] = (n / 256 % 256) as u8;
-    out[2] = (n % 256) as u8;
-    lay(&mut out[3..], bytes);
-    let c = check(&out[..n + 3]);
-    out[n + 3] = c;
-    Built::Written(n + 4)
+    lay(&mut out[HEAD..], bytes);
+    wrap(out, identifier, n)
 }
 
 // Writes a frame that the box can be sent.
@@ -55,14 +99,14 @@ pub fn build(out: &mut [u8], identifier: u8, bytes: &[u8]) -> Built
     ensures { λ r. ⌜ Builds (now (out .entry)) identifier (now (bytes .entry)) r (now (out .exit)) ⌝ }
 {
     let n = bytes.len();
-    if out.len() < n + 4 {
-        return Built::Short;
+    if out.len() < n + AROUND {
+        return Built::Refused(2);
     }
-    if 550 < n {
-        return Built::TooLong;
+    if DATA < n {
+        return Built::Refused(4);
     }
     if !listed(size_of(identifier)) {
-        return Built::Unknown;
+        return Built::Refused(6);
     }
     answer(out, identifier, bytes)
 }

@@ -1,4 +1,9 @@
 // What was received: nothing is copied, an answer says where the data lies.
+use crate::wire::AROUND;
+use crate::wire::DATA;
+use crate::wire::HEAD;
+use crate::wire::MARKS;
+use crate::wire::UPDATE;
 use crate::wire::check;
 use crate::wire::fits;
 use crate::wire::listed;
@@ -7,7 +12,13 @@ use crate::wire::word;
 ghost use Prim.Native.Nat.{_≤_};
 ghost use mathlib.Core.Path.{_≡_};
 ghost use Rattle.frame.specs.Receive.{Receives, data-length, framed, judged, run, text-space, updated};
-ghost use Rattle.frame.specs.Wire.{update-closes};
+ghost use Rattle.frame.specs.Wire.{longest-data, update-closes};
+
+// How many bytes behind the 02h the 03h must stand among.
+const TEXT: usize = UPDATE + 1;
+
+// How many bytes the longest update has: 1,024.
+const WHOLE: usize = UPDATE + MARKS;
 
 pub enum Received {
     // Not whole yet: number 3, nothing is consumed.
@@ -44,7 +55,7 @@ fn update_size(s: &[u8]) -> usize
     ensures { λ r. ⌜ r ≡ run update-closes (text-space (now (s .entry))) ⌝ }
 {
     let mut n = 0;
-    while n < 1023 {
+    while n < TEXT {
         if s.len() <= n + 1 {
             return n;
         }
@@ -60,15 +71,15 @@ fn receive_update(s: &[u8]) -> Received
     ensures { λ r. ⌜ r ≡ updated (now (s .entry)) (run update-closes (text-space (now (s .entry)))) ⌝ }
 {
     let n = update_size(s);
-    if n < 1023 {
+    if n < TEXT {
         if n + 1 < s.len() {
             return Received::Update {
                 size: n,
-                consumed: n + 2,
+                consumed: n + MARKS,
             };
         }
     }
-    if s.len() < 1024 {
+    if s.len() < WHOLE {
         return Received::Partial;
     }
     Received::Refused {
@@ -79,7 +90,7 @@ fn receive_update(s: &[u8]) -> Received
 
 // A frame whose check byte is right, held to the table.
 fn judge(identifier: u8, n: usize) -> Received
-    requires { ⌜ n ≤ 550 ⌝ }
+    requires { ⌜ n ≤ longest-data ⌝ }
     ensures { λ r. ⌜ r ≡ judged identifier n ⌝ }
 {
     let size = size_of(identifier);
@@ -88,7 +99,7 @@ fn judge(identifier: u8, n: usize) -> Received
             number: 6,
             identifier,
             size: n,
-            consumed: n + 4,
+            consumed: n + AROUND,
         };
     }
     if !fits(size, n) {
@@ -96,36 +107,36 @@ fn judge(identifier: u8, n: usize) -> Received
             number: 7,
             identifier,
             size: n,
-            consumed: n + 4,
+            consumed: n + AROUND,
         };
     }
     Received::Frame {
         identifier,
         size: n,
-        consumed: n + 4,
+        consumed: n + AROUND,
     }
 }
 
 fn receive_frame(s: &[u8]) -> Received
     ensures { λ r. ⌜ r ≡ framed (now (s .entry)) (data-length (now (s .entry))) ⌝ }
 {
-    if s.len() < 3 {
+    if s.len() < HEAD {
         return Received::Partial;
     }
     let n = word(s[1], s[2]);
-    if 550 < n {
+    if DATA < n {
         return Received::Refused {
             number: 4,
             consumed: s.len(),
         };
     }
-    if s.len() < n + 4 {
+    if s.len() < n + AROUND {
         return Received::Partial;
     }
-    if check(&s[..n + 3]) != s[n + 3] {
+    if check(&s[..n + HEAD]) != s[n + HEAD] {
         return Received::Refused {
             number: 5,
-            consumed: n + 4,
+            consumed: n + AROUND,
         };
     }
     judge(s[0], n)

@@ -1,7 +1,22 @@
 // The check byte, numbers of two bytes and the table of identifiers.
 ghost use mathlib.Core.Path.{_≡_};
 ghost use Prim.Native.Nat.{_<_};
-ghost use Rattle.frame.specs.Wire.{check, fits, listed, size-of, word};
+ghost use Rattle.frame.specs.Wire.{check, check-from, fits, listed, size-of, word};
+
+// How many data bytes a frame has at the most.
+pub const DATA: usize = 550;
+
+// How many bytes stand before the data: identifier and length.
+pub const HEAD: usize = 3;
+
+// How many bytes stand around the data: identifier, length and check byte.
+pub const AROUND: usize = 4;
+
+// How many characters a field update has at the most.
+pub(crate) const UPDATE: usize = 1022;
+
+// How many bytes stand around the characters: 02h and 03h.
+pub(crate) const MARKS: usize = 2;
 
 // How many data bytes an identifier asks for.
 pub enum Size {
@@ -17,17 +32,33 @@ pub fn word(high: u8, low: u8) -> usize
     (high as usize) * 256 + (low as usize)
 }
 
-// The exclusive OR of all bytes.
-pub(crate) fn check(s: &[u8]) -> u8
-    ensures { λ r. ⌜ r ≡ check (now (s .entry)) ⌝ }
+// The exclusive OR carried on from a byte over all bytes.
+fn check_from(from: u8, s: &[u8]) -> u8
+    ensures { λ r. ⌜ r ≡ check-from from (now (s .entry)) ⌝ }
 {
-    let mut c: u8 = 0;
+    let mut c = from;
     let mut i = 0;
     while i < s.len() {
         c = c ^ s[i];
         i += 1;
     }
     c
+}
+
+// How many bytes the check takes in a turn: a count that the compiler knows, so that it needs no test for each of them.
+const TURN: usize = 32;
+
+// The exclusive OR of all bytes.
+pub(crate) fn check(s: &[u8]) -> u8
+    ensures { λ r. ⌜ r ≡ check (now (s .entry)) ⌝ }
+{
+    let mut c: u8 = 0;
+    let mut i = 0;
+    while i + TURN <= s.len() {
+        c = check_from(c, &s[i..i + TURN]);
+        i += TURN;
+    }
+    check_from(c, &s[i..])
 }
 
 // The table of document 01, a row for each identifier.

@@ -11,7 +11,7 @@ use lib.Dec.{ltb}
 use lib.ListN.{length, getD, take, drop, set, length-append}
 use lib.Seq.{length-take-le}
 use Rattle.frame.specs.Ground.{over}
-use Rattle.frame.proofs.Laws.{pick-case, over-next, tail-laid}
+use Rattle.frame.proofs.Ground.{pick-case, over-next, tail-laid}
 use Rattle.line.specs.Line.{space, newline, decimal, hex-digit, hex, line, lined, bytes-of, line-length, Writes}
 use Rattle.line.specs.declared.Lined.{Lined}
 use Rattle.line.specs.declared.Lined.the-variants.{Short, Written}

@@ -3,68 +3,81 @@
 use Prim.Native.Nat.{ℕ, _+_, _≤_, _<_}
 use mathlib.Core.Bool.{Bool, true, false}
 use mathlib.Core.List.{List}
-use mathlib.Core.Path.{_≡_, refl, sym, subst, _∙_}
+use mathlib.Core.Path.{_≡_, refl, sym, subst, ap, _∙_}
 use native.Mathlib.Omega.{arith}
 use borrow.Author.Tests.{eqb-true, eqb-false, leb-false, ltb-false}
 use lib.Dec.{eqb, leb, ltb}
-use lib.ListN.{length, getD, take, drop}
-use Rattle.frame.specs.Ground.{both}
+use lib.ListN.{length, getD, take, drop, length-set}
+use Rattle.frame.specs.Ground.{both, all}
 use Rattle.frame.specs.Receive.{received}
 use Rattle.frame.specs.declared.receive.Received.the-variants.{Update, Frame}
-use Rattle.frame.proofs.Laws.{unless-tells, within-true}
+use Rattle.frame.proofs.Ground.{within-true}
 use Rattle.content.specs.Byte.{all-characters}
 use Rattle.content.specs.Machine.{start}
-use Rattle.content.specs.Position.{field-positions, marks, is-field-position}
-use Rattle.content.specs.Edit as edit
+use Rattle.content.specs.Position.{marks, is-field-position}
+use Rattle.content.specs.Edit.{replaced}
 use Rattle.content.specs.Update.{laid}
-use Rattle.content.specs.declared.edit.Edited.the-variants.{Done}
 use Rattle.content.specs.declared.position.Mark.the-variants.{Structure}
-use Rattle.content.proofs.Writes.{edit-elsewhere, edit-keeps-length, update-elsewhere, update-keeps-length}
-use Rattle.printer.specs.Jet.{has-jet, has-message, message}
-use Rattle.printer.specs.State.{jet-at, with-jet, valid}
-use Rattle.printer.specs.Change.{jet-number, address-in, edited-jet, updated-jet, first-of-head, second-of-head, edit-message, update-fields, updated-head}
-use Rattle.printer.specs.Receive.{outcome, obeyed, asked, after-change}
-use Rattle.printer.specs.Demands.{SameButMessage, Edited, EditsOnlyAddressed, Updated, UpdatesOnlyFields}
-use Rattle.printer.specs.declared.jet.Jet.{Jet}
-use Rattle.printer.specs.declared.state.Printer.{Printer}
-use Rattle.printer.specs.declared.change.Change.{Change}
-use Rattle.printer.proofs.Valid.{jet-range}
-use Rattle.printer.proofs.Stays.{jet-at-with-jet, jet-at-other, with-jet-keeps, message-of}
-use Rattle.printer.proofs.ChangeStays.{characters-behind, number-done}
+use Rattle.content.proofs.ChangeLaws.{edit-elsewhere, edit-keeps-length, update-elsewhere, update-keeps-length}
+use Rattle.printer.specs.Jet.{Jet, message}
+use Rattle.printer.specs.State.{Printer, jet-at, with-jet, printer-of, valid-state}
+use Rattle.printer.specs.Order.{Order, given, jet-number}
+use Rattle.printer.specs.Change.{address-in, edited-jet, positions, updated-jet, first-of-head, second-of-head, edit-message, update-fields, updated-head}
+use Rattle.printer.specs.Receive.{Outcome, outcome, obeyed, done, order}
+use Rattle.printer.specs.OrderLaws.{numbered}
+use Rattle.printer.specs.Demands.{full, SameButMessage, Edited, EditsOnlyAddressed, Updated, UpdatesOnlyFields}
+use Rattle.printer.proofs.Valid.{on-row, four-jets}
+use Rattle.printer.proofs.StateLaws.{jet-at-with-jet, jet-at-other, message-of}
+use Rattle.printer.proofs.OrderLaws.{obeyed-done, obeyed-refused, given-exactly, EditTests, edit-tells, characters-behind, update-tells}
+
+-- ---- What an accepted order leaves.
+-- All tests of what is accepted hold, and it is done.
+pub obeyed-accepted : (p : Printer) (o : Order) (consumed : ℕ) → numbered (o .tests) ≡ true → obeyed p o consumed .number ≡ 0
+    → (all (o .tests) ≡ true) × (obeyed p o consumed ≡ done o consumed)
+obeyed-accepted p o consumed n z = go (all (o .tests)) refl
+  where
+    go : (t : Bool) → all (o .tests) ≡ t → (all (o .tests) ≡ true) × (obeyed p o consumed ≡ done o consumed)
+    go true e = (e, obeyed-done p o consumed e)
+    go false e =
+        let g : 8 ≤ given (o .tests) = given-exactly (o .tests) n .1 e in
+        let q : obeyed p o consumed .number ≡ given (o .tests) = ap (λ (x : Outcome). x .number) (obeyed-refused p o consumed e) in
+        absurd (omega arith)
+
+-- So what is true of the state behind an order whose tests hold is true of what is left, where what is handed in was obeyed and accepted.
+accepted-leaves : (P : Printer → Type 0) (m s : List ℕ) (o : Order) (consumed : ℕ) → numbered (o .tests) ≡ true
+    → outcome m (full s) ≡ obeyed (printer-of m) o consumed → outcome m (full s) .number ≡ 0 → (all (o .tests) ≡ true → P (o .after))
+    → P (outcome m (full s) .printer)
+accepted-leaves P m s o consumed n e z f =
+    let a = obeyed-accepted (printer-of m) o consumed n (rw e at z) in
+    rw (e, a .1) (f (a .0))
 
 -- ---- Jets that are replaced.
 -- When a jet is put in a place, the jet of a number is the new one or the one before.
-pub put-jet : (P : Jet → Type 0) (p : Printer) (n jet : ℕ) (j : Jet) → (1 ≤ n) × (n ≤ 4) → (1 ≤ jet) × (jet ≤ 4)
+pub put-jet : (P : Jet → Type 0) (p : Printer) (n jet : ℕ) (j : Jet) → 1 ≤ n → n ≤ length (p .jets) → 1 ≤ jet
     → (n ≡ jet → P j) → ((n ≡ jet → ⊥) → P (jet-at p jet)) → P (jet-at (with-jet p n j) jet)
-put-jet P p n jet j r s f g = go (eqb n jet) refl
+put-jet P p n jet j h g k new old = go (eqb n jet) refl
   where
     go : (t : Bool) → eqb n jet ≡ t → P (jet-at (with-jet p n j) jet)
     go true e =
         let q = eqb-true n jet e in
-        subst (λ (k : ℕ). P (jet-at (with-jet p n j) k)) q (rw (jet-at-with-jet p n j) (f q))
+        subst (λ (k : ℕ). P (jet-at (with-jet p n j) k)) q (subst P (sym (jet-at-with-jet p n j h g)) (new q))
     go false e =
         let q = eqb-false n jet e in
-        rw (jet-at-other p n jet j r s (λ x. q (sym x))) (g q)
+        subst P (sym (jet-at-other p n jet j h k (λ x. q (sym x)))) (old q)
 
 -- What is true of a jet beside itself and beside itself updated is true of each jet, before and after an update.
-pub head-each : (R : Jet → Jet → Type 0) (p : Printer) (text : List ℕ) (jet : ℕ) → all-characters text ≡ true → (1 ≤ jet) × (jet ≤ 4)
+pub head-each : (R : Jet → Jet → Type 0) (p : Printer) (text : List ℕ) (jet : ℕ) → length (p .jets) ≡ 4 → all-characters text ≡ true → 1 ≤ jet
     → ((j : Jet) → R j j) → ((j : Jet) (t : List ℕ) → all-characters t ≡ true → R j (updated-jet j t))
     → R (jet-at p jet) (jet-at (updated-head p text) jet)
-head-each R p text jet c r same new =
-    let n = field-positions (message (first-of-head p)) in
-    put-jet (R (jet-at p jet)) (with-jet p 1 (updated-jet (first-of-head p) text)) 2 jet _ (omega arith, omega arith) r
-    (λ q. rw (sym q) (new (second-of-head p) (drop n text) (characters-behind n text c)))
-    (λ _. put-jet (R (jet-at p jet)) p 1 jet _ (omega arith, omega arith) r (λ q. rw (sym q) (new (first-of-head p) text c)) (λ _. same (jet-at p jet)))
-
--- What an accepted change leaves.
-change-done : (consumed : ℕ) (p : Printer) (c : Change) → after-change consumed p c .number ≡ 0
-    → (c .number ≡ 0) × (after-change consumed p c .printer ≡ c .printer)
-change-done consumed p c = go (eqb (c .number) 0) refl
-  where
-    go : (t : Bool) → eqb (c .number) 0 ≡ t → after-change consumed p c .number ≡ 0
-        → (c .number ≡ 0) × (after-change consumed p c .printer ≡ c .printer)
-    go true e z = (eqb-true (c .number) 0 e, rw e)
-    go false e z = absurd (eqb-false (c .number) 0 e (rw e at z))
+head-each R p text jet four c k same new =
+    let a = first-of-head p in
+    let first = with-jet p 1 (updated-jet a text) in
+    let many : length (first .jets) ≡ length (p .jets) = length-set (p .jets) 0 (updated-jet a text) in
+    put-jet (R (jet-at p jet)) first 2 jet _ (omega arith) (omega arith) k
+    (λ q. subst (λ (n : ℕ). R (jet-at p n) (updated-jet (second-of-head p) (drop (positions a) text))) q
+    (new (second-of-head p) (drop (positions a) text) (characters-behind (positions a) text c)))
+    (λ _. put-jet (R (jet-at p jet)) p 1 jet _ (omega arith) (omega arith) k
+    (λ q. subst (λ (n : ℕ). R (jet-at p n) (updated-jet a text)) q (new a text c)) (λ _. same (jet-at p jet)))
 
 -- ---- An edit.
 -- What is not among n places from a on stands before or behind them.
@@ -75,62 +88,66 @@ outside a n i A e f = go (leb a i) refl e
     go true h e = f .1 (ltb-false i (a + n) e)
     go false h e = f .0 (leb-false a i h)
 
-edit-edits : (p : Printer) (d : List ℕ) → edit-message p d .number ≡ 0 → Edited p (edit-message p d .printer) d
+pub edit-edits : (p : Printer) (d : List ℕ) → length (p .jets) ≡ 4 → EditTests p d → Edited p (edit-message p d .after) d
 unfolding edit-message
-edit-edits p d =
+edit-edits p d four x =
     let n = jet-number d in
-    let j = jet-at p n in
-    let x = edit.edited (message j) (address-in d) (drop 3 d) in
-    unless-tells Q (has-jet (p .kind) n) _ _ (λ _ e. absurd (omega arith)) (λ k.
-    unless-tells Q (has-message j) _ _ (λ _ e. absurd (omega arith)) (λ _.
-    unless-tells Q (eqb (edit.number x) 0) _ _ (λ e z. absurd (eqb-false _ 0 e z)) (λ e _.
-    put-edits k (number-done x (eqb-true _ 0 e)))))
-  where
-    Q : Change → Type 0
-    Q c = c .number ≡ 0 → Edited p (c .printer) d
-
-    put-edits : has-jet (p .kind) (jet-number d) ≡ true
-        → edit.edited (message (jet-at p (jet-number d))) (address-in d) (drop 3 d) ≡ Done
-        → Edited p (with-jet p (jet-number d) (edited-jet (jet-at p (jet-number d)) (address-in d) (drop 3 d))) d
-    put-edits k e =
-        let n = jet-number d in
-        let s = message (jet-at p n) in
-        let new = edited-jet (jet-at p n) (address-in d) (drop 3 d) in
-        let here = jet-at-with-jet p n new in
-        let there = message-of (jet-at p n) (edit.replaced s (address-in d) (drop 3 d)) in
-        record {
-          kind = with-jet-keeps p n new .0;
-          clock = with-jet-keeps p n new .1;
-          others = λ jet w q. jet-at-other p n jet new (jet-range (p .kind) n k) (within-true 1 4 jet w) q;
-          elsewhere = λ i o. rw (here, there) (outside (address-in d) (length (drop 3 d)) i _ o (edit-elsewhere s (address-in d) (drop 3 d) i e));
-          as-long = rw (here, there) (edit-keeps-length s (address-in d) (drop 3 d) e);
-          rest = rw here (record { set = refl; parameters = refl; counter = refl; batch = refl });
-        }
+    let r = on-row (p .model) n (x .there) in
+    let s = message (jet-at p n) in
+    let new = edited-jet (jet-at p n) (address-in d) (drop 3 d) in
+    let here : jet-at (with-jet p n new) n ≡ new = jet-at-with-jet p n new (r .0) (omega arith) in
+    let there : message new ≡ replaced s (address-in d) (drop 3 d) = message-of (jet-at p n) (replaced s (address-in d) (drop 3 d)) in
+    let both : message (jet-at (with-jet p n new) n) ≡ replaced s (address-in d) (drop 3 d) = ap message here ∙ there in
+    record {
+      model = refl;
+      clock = refl;
+      others = λ jet w q. jet-at-other p n jet new (r .0) (within-true 1 4 jet w .0) q;
+      elsewhere = λ i o.
+          ap (λ (l : List ℕ). getD l i 0) both
+          ∙ outside (address-in d) (length (drop 3 d)) i _ o (edit-elsewhere s (address-in d) (drop 3 d) i (x .edits));
+      as-long = ap length both ∙ edit-keeps-length s (address-in d) (drop 3 d) (x .edits);
+      rest = record { general = ap (λ (j : Jet). j .general) here; counter = ap (λ (j : Jet). j .counter) here };
+    }
 
 -- What is handed in does what the rule of 42h does.
-edit-heard : (p : Printer) (s : List ℕ) (n consumed : ℕ) → valid p ≡ true → received s ≡ Frame 0x42 n consumed
-    → outcome p s 554 6144 ≡ after-change consumed p (edit-message p (take n (drop 3 s)))
-unfolding outcome obeyed asked
-edit-heard p s n consumed v e = rw (v, e)
+edit-heard : (m s : List ℕ) (n consumed : ℕ) → valid-state m ≡ true → received s ≡ Frame 0x42 n consumed
+    → outcome m (full s) ≡ obeyed (printer-of m) (edit-message (printer-of m) (take n (drop 3 s))) consumed
+unfolding outcome order
+edit-heard m s n consumed v e = rw (v, e)
+
+edit-numbered : (p : Printer) (d : List ℕ) → numbered (edit-message p d .tests) ≡ true
+unfolding edit-message
+edit-numbered p d = refl
 
 pub edits-only-addressed : EditsOnlyAddressed
-edits-only-addressed p s n consumed v e z =
-    let o = edit-heard p s n consumed v e in
-    let a = change-done consumed p (edit-message p (take n (drop 3 s))) (rw o at z) in
-    rw (o, a .1) (edit-edits p (take n (drop 3 s)) (a .0))
+edits-only-addressed m s n consumed v e z =
+    let p = printer-of m in
+    let d = take n (drop 3 s) in
+    accepted-leaves (λ (q : Printer). Edited p q d) m s (edit-message p d) consumed (edit-numbered p d) (edit-heard m s n consumed v e) z
+    (λ t. edit-edits p d (four-jets m) (edit-tells p d t))
 
 -- ---- An update.
-update-updates : (p : Printer) (text : List ℕ) → update-fields p text .number ≡ 0 → Updated p (update-fields p text .printer)
+pub update-updates : (p : Printer) (text : List ℕ) → length (p .jets) ≡ 4 → all-characters text ≡ true → Updated p (update-fields p text .after)
 unfolding update-fields
-update-updates p text =
-    unless-tells Q (ltb 0 (field-positions (message (first-of-head p)) + field-positions (message (second-of-head p)))) _ _
-    (λ _ e. absurd (omega arith)) (λ _.
-    unless-tells Q (all-characters text) _ _ (λ _ e. absurd (omega arith)) (λ c _.
-    head-updates c))
+update-updates p text four c =
+    record {
+      model = refl;
+      clock = refl;
+      second-head = λ jet w.
+          let r = within-true 3 4 jet w in
+          jet-at-other first-put 2 jet _ (omega arith) (omega arith) (λ e. omega arith)
+          ∙ jet-at-other p 1 jet _ (omega arith) (omega arith) (λ e. omega arith);
+      elsewhere = λ jet i w.
+          head-each Elsewhere p text jet four c (within-true 1 2 jet w .0) (λ j i e. refl)
+          (λ j t _ i e. ap (λ (l : List ℕ). getD l i 0) (message-of j (laid t start (message j))) ∙ update-elsewhere (message j) t i e) i;
+      as-long = λ jet w.
+          head-each (λ (j k : Jet). length (message k) ≡ length (message j)) p text jet four c (within-true 1 4 jet w .0) (λ j. refl)
+          (λ j t _. ap length (message-of j (laid t start (message j))) ∙ update-keeps-length (message j) t);
+      rest = λ jet w.
+          head-each SameButMessage p text jet four c (within-true 1 4 jet w .0)
+          (λ j. record { general = refl; counter = refl }) (λ j t _. record { general = refl; counter = refl });
+    }
   where
-    Q : Change → Type 0
-    Q c = c .number ≡ 0 → Updated p (c .printer)
-
     first-put : Printer
     first-put = with-jet p 1 (updated-jet (first-of-head p) text)
 
@@ -138,36 +155,19 @@ update-updates p text =
     Elsewhere : Jet → Jet → Type 0
     Elsewhere j k = (i : ℕ) → is-field-position (getD (marks start (message j)) i Structure) ≡ false → getD (message k) i 0 ≡ getD (message j) i 0
 
-    head-updates : all-characters text ≡ true → Updated p (updated-head p text)
-    head-updates c =
-        record {
-          kind = with-jet-keeps first-put 2 _ .0 ∙ with-jet-keeps p 1 _ .0;
-          clock = with-jet-keeps first-put 2 _ .1 ∙ with-jet-keeps p 1 _ .1;
-          second-head = λ jet w.
-              let r = within-true 3 4 jet w in
-              jet-at-other first-put 2 jet _ (omega arith, omega arith) (omega arith, r .1) (λ e. omega arith)
-              ∙ jet-at-other p 1 jet _ (omega arith, omega arith) (omega arith, r .1) (λ e. omega arith);
-          elsewhere = λ jet i w.
-              let r = within-true 1 2 jet w in
-              head-each Elsewhere p text jet c (r .0, omega arith) (λ j i e. refl)
-              (λ j t _ i e. rw (message-of j (laid t start (message j))) (update-elsewhere (message j) t i e)) i;
-          as-long = λ jet w.
-              head-each (λ (j k : Jet). length (message k) ≡ length (message j)) p text jet c (within-true 1 4 jet w) (λ j. refl)
-              (λ j t _. rw (message-of j (laid t start (message j))) (update-keeps-length (message j) t));
-          rest = λ jet w.
-              head-each SameButMessage p text jet c (within-true 1 4 jet w)
-              (λ j. record { set = refl; parameters = refl; counter = refl; batch = refl })
-              (λ j t _. record { set = refl; parameters = refl; counter = refl; batch = refl });
-        }
-
 -- What is handed in does what the rule of an update does.
-update-heard : (p : Printer) (s : List ℕ) (n consumed : ℕ) → valid p ≡ true → received s ≡ Update n consumed
-    → outcome p s 554 6144 ≡ after-change consumed p (update-fields p (take n (drop 1 s)))
+update-heard : (m s : List ℕ) (n consumed : ℕ) → valid-state m ≡ true → received s ≡ Update n consumed
+    → outcome m (full s) ≡ obeyed (printer-of m) (update-fields (printer-of m) (take n (drop 1 s))) consumed
 unfolding outcome
-update-heard p s n consumed v e = rw (v, e)
+update-heard m s n consumed v e = rw (v, e)
+
+pub update-numbered : (p : Printer) (text : List ℕ) → numbered (update-fields p text .tests) ≡ true
+unfolding update-fields
+update-numbered p text = refl
 
 pub updates-only-fields : UpdatesOnlyFields
-updates-only-fields p s n consumed v e z =
-    let o = update-heard p s n consumed v e in
-    let a = change-done consumed p (update-fields p (take n (drop 1 s))) (rw o at z) in
-    rw (o, a .1) (update-updates p (take n (drop 1 s)) (a .0))
+updates-only-fields m s n consumed v e z =
+    let p = printer-of m in
+    let text = take n (drop 1 s) in
+    accepted-leaves (Updated p) m s (update-fields p text) consumed (update-numbered p text) (update-heard m s n consumed v e) z
+    (λ t. update-updates p text (four-jets m) (update-tells p text t))

@@ -1,21 +1,39 @@
--- The proofs of `printer`: the samples; what a valid state tells; the laws of the clock, of counting, of the state, of changes, of
--- prints and of outcomes; the demands; and that every contract has one outcome.
-pub mod Samples
+-- The proofs of `printer`. What the functions' proofs share: numbers and digits in bytes, counters, jets and the whole state in their
+-- bytes, a jet's part of the state, the jets of a head, what a valid state tells, orders, answers and prints.
+pub mod Numbers
+pub mod Counters
+pub mod Jets
+pub mod Memory
+pub mod Part
+pub mod Head
 pub mod Valid
-pub mod Moments
-pub mod Counts
-pub mod Messages
-pub mod Stays
-pub mod ChangeStays
-pub mod Ready
-pub mod Prints
+pub mod Orders
 pub mod Said
+pub mod Prints
+-- The laws, each file those of the statements of the same name; `Moments` and `Rows` have what they share.
+pub mod Moments
+pub mod ClockLaws
+pub mod CounterLaws
+pub mod BytesLaws
+pub mod Rows
+pub mod StateLaws
+pub mod PrintLaws
+pub mod OrderLaws
 pub mod Outcomes
-pub mod Consuming
+pub mod NumberLaws
+pub mod OutcomeLaws
+pub mod Unique
+pub mod Samples
+-- The demands: refusals, what is accepted, what was built, edits and updates, prints; then every state that calls lead to, its room, its
+-- bytes and its messages; and all of them on one page.
 pub mod Refusing
 pub mod Accepting
-pub mod Printing
-pub mod Reaching
+pub mod Building
 pub mod Editing
-pub mod Holding
-pub mod Unique
+pub mod Printing
+pub mod Rooms
+pub mod Written
+pub mod Leading
+pub mod Following
+pub mod Reaching
+pub mod Demands

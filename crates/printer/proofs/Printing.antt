@@ -3,44 +3,43 @@
 use Prim.Native.Nat.{ℕ}
 use mathlib.Core.Bool.{true}
 use mathlib.Core.List.{List, []}
-use mathlib.Core.Path.{_≡_, refl, _∙_, ap}
+use mathlib.Core.Path.{_≡_, refl, sym, _∙_, ap}
 use native.Mathlib.Omega.{arith}
-use Rattle.frame.specs.Ground.{pick}
+use lib.ListN.{length}
+use Rattle.frame.specs.Ground.{pick, unless}
 use Rattle.frame.specs.Wire.{size-of}
-use Rattle.frame.specs.Receive.{received}
 use Rattle.frame.specs.Build.{frame}
+use Rattle.frame.specs.Receive.{received}
 use Rattle.frame.specs.declared.receive.Received.the-variants.{Frame}
-use Rattle.frame.proofs.Laws.{unless-tells}
+use Rattle.frame.proofs.Ground.{unless-tells}
 use Rattle.frame.proofs.Whole.{read-back}
-use Rattle.printer.specs.State.{valid}
-use Rattle.printer.specs.Print.{ready, strips}
-use Rattle.printer.specs.PrintLaws.{strip-at}
-use Rattle.printer.specs.Receive.{Outcome, outcome, handled, obeyed, printed}
-use Rattle.printer.specs.Demands.{print-frame, PrintRefusedExactly, StripsPrinted}
-use Rattle.printer.specs.declared.state.Printer.{Printer}
-use Rattle.printer.proofs.Prints.{strip-meaning}
+use Rattle.printer.specs.State.{valid-state, printer-of}
+use Rattle.printer.specs.Print.{print, ready, strips}
+use Rattle.printer.specs.Receive.{Outcome, outcome, handled, obeyed, order}
+use Rattle.printer.specs.Demands.{full, print-frame, PrintRefusedExactly, StripsPrinted}
+use Rattle.printer.proofs.Valid.{valid-printer, four-jets}
+use Rattle.printer.proofs.PrintLaws.{strip-meaning}
 use Rattle.printer.proofs.Accepting.{valid-handled}
 
 print-received : (rest : List ℕ) → received (print-frame rest) ≡ Frame 0x94 0 4
 unfolding frame size-of
 print-received rest = read-back 0x94 [] rest refl (omega arith) .answer
 
-print-printed : (p : Printer) (rest : List ℕ) → valid p ≡ true → outcome p (print-frame rest) 554 6144 ≡ printed 4 p
-unfolding obeyed
-print-printed p rest v = valid-handled p (print-frame rest) v ∙ ap (handled p (print-frame rest)) (print-received rest)
+print-obeyed : (m rest : List ℕ) → valid-state m ≡ true → outcome m (full (print-frame rest)) ≡ obeyed (printer-of m) (print (printer-of m)) 4
+unfolding order
+print-obeyed m rest v = valid-handled m (print-frame rest) v ∙ ap (handled (printer-of m) (print-frame rest)) (print-received rest)
 
 pub print-refused-exactly : PrintRefusedExactly
-unfolding printed
-print-refused-exactly p rest v =
-    rw (print-printed p rest v)
-    (unless-tells (λ (o : Outcome). o .number ≡ pick (ready p) 0 11) (ready p) _ _ (λ e. rw e) (λ e. rw e))
+unfolding obeyed print
+print-refused-exactly m rest v =
+    rw (print-obeyed m rest v)
+    (unless-tells (λ (o : Outcome). o .number ≡ pick (ready (printer-of m)) 0 11) (ready (printer-of m)) _ _ (λ e. rw e) (λ e. rw e))
 
-ready-strips : (p : Printer) (rest : List ℕ) → valid p ≡ true → ready p ≡ true → outcome p (print-frame rest) 554 6144 .strips ≡ strips p
-unfolding printed
-ready-strips p rest v f = rw (print-printed p rest v, f)
+ready-strips : (m rest : List ℕ) → valid-state m ≡ true → ready (printer-of m) ≡ true → outcome m (full (print-frame rest)) .strips ≡ strips (printer-of m)
+unfolding obeyed print
+ready-strips m rest v f = rw (print-obeyed m rest v, f)
 
 pub strips-printed : StripsPrinted
-unfolding strip-at
-strips-printed p rest jet v f h =
-    let m = strip-meaning p jet v f h in
-    rw (ready-strips p rest v f) (record { ends = m .ends; same-shape = m .same-shape; items = m .replaced })
+strips-printed m rest jet v f h =
+    let s = strip-meaning (printer-of m) jet (four-jets m) (valid-printer m v) f h in
+    rw (ready-strips m rest v f) (record { ends = s .ends; same-shape = s .same-shape; items = s .replaced })

@@ -1,126 +1,196 @@
--- What the answers share: a byte at the front of the buffer, a frame behind it, and an outcome that is another by the tests that led to it.
-use Prim.Native.Nat.{ℕ, _+_, _-_, _≤_}
-use mathlib.Core.List.{List, [], _∷_}
+-- What an order comes to: it is refused at its first test that fails, and the state stays, or it is done; and what is answered of it.
+use Prim.Native.Nat.{ℕ, _+_, _-_, _≤_, _<_}
+use mathlib.Core.Bool.{Bool, true, false}
+use mathlib.Core.List.{List, [], _∷_, map}
 use mathlib.Core.Path.{_≡_, refl, sym, _∙_, ap, subst}
 use native.Mathlib.Nat.{not-suc-le-zero}
 use native.Mathlib.Omega.{arith}
-use borrow.Author.Tests.{eq-eqb, ne-eqb, le-ltb}
+use borrow.Author.Tests.{eq-eqb, ne-eqb}
 use borrow.Rule.Slice.PartMut.{midOf, putMid}
-use lib.Dec.{eqb}
-use lib.ListN.{length, set, length-set, length-drop}
-use Rattle.frame.specs.Ground.{over}
-use Rattle.frame.specs.Build.{frame, answered, bytes-of, Answers}
-use Rattle.frame.specs.declared.build.Built.{Built}
-use Rattle.frame.specs.declared.build.Built.the-variants.{Written}
-use Rattle.frame.proofs.Laws.{left-behind, pick-case, lent-tail}
-use Rattle.frame.proofs.Whole.{frame-length}
-use Rattle.printer.specs.Change.{set-message, set-parameters, set-both, edit-message}
-use Rattle.printer.specs.Request.{Told, ask-counter, ask-message, ask-table, ask-clock}
-use Rattle.printer.specs.Print.{Strips, Lengths-of, no-strips, all-strips}
-use Rattle.printer.specs.Receive.{ack, Outcome, Says, Meets, done, refusal, after-change, after-told, asked}
+use lib.ListN.{length, set, take, length-append, length-take}
+use Rattle.frame.specs.Ground.{all, joined, over}
+use Rattle.frame.proofs.Ground.{lent-tail, tail-back}
+use Rattle.printer.specs.State.{Printer, bytes-of}
+use Rattle.printer.specs.Order.{Order, no-strips, given, Obeys}
+use Rattle.printer.specs.Answer.{Silent, Settles, Tells, ack, nack}
+use Rattle.printer.specs.Change.{set-message, set-parameters, set-both, edit-message, update-fields}
+use Rattle.printer.specs.Request.{ask-counter, ask-message, ask-table, ask-clock}
+use Rattle.printer.specs.Receive.{Outcome, Meets, silent, refusal, done, obeyed, enquire}
+use Rattle.printer.specs.OrderLaws.{numbered}
 use Rattle.printer.specs.declared.answer.Answered.{Answered}
-use Rattle.printer.specs.declared.change.Change.{Change}
-use Rattle.printer.specs.declared.print.Lengths.{Lengths}
-use Rattle.printer.specs.declared.state.Printer.{Printer}
+use Rattle.printer.specs.declared.request.Told.{Told}
+use Rattle.printer.proofs.OrderLaws.{obeyed-done, obeyed-refused, given-exactly}
 
--- ---- One byte.
-pub first-byte : (b : ℕ) (before : List ℕ) → 1 ≤ length before → set before 0 b ≡ over (b ∷ []) before
-first-byte b [] h = absurd (not-suc-le-zero h)
-first-byte b (x ∷ before) h = refl
+-- ---- The outcome of an order.
+-- No refusal's number is 0, which says that all is done.
+not-zero : {n : ℕ} → 8 ≤ n → n ≡ 0 → ⊥
+not-zero h e = omega arith
 
--- An answer of one byte and no strips, whatever the number.
-pub says-byte : (b number consumed : ℕ) (p : Printer) (before : List ℕ) {lengths : Lengths} → 1 ≤ length before → Lengths-of no-strips lengths
-    → Says
-    (record { number = number; consumed = consumed; answer = b ∷ []; strips = no-strips; printer = p })
-    before
-    (record { number = number; consumed = consumed; answer = 1; strips = lengths; printer = p })
-    (set before 0 b)
-says-byte b number consumed p before h e =
-    record { number = refl; consumed = refl; answer = refl; lengths = e; state = refl; bytes = first-byte b before h }
+pub meets-same : {o o′ : Outcome} {m answer strips : List ℕ} {a : Answered} {m′ answer′ strips′ : List ℕ} → o′ ≡ o
+    → Meets o m answer strips a m′ answer′ strips′ → Meets o′ m answer strips a m′ answer′ strips′
+meets-same {m = m} {answer = answer} {strips = strips} {a = a} {m′ = m′} {answer′ = answer′} {strips′ = strips′} e x =
+    subst (λ (o : Outcome). Meets o m answer strips a m′ answer′ strips′) (sym e) x
 
--- ---- A frame behind the first byte.
--- With room, and data that is not too long, `answer` writes the frame.
-pub answer-written : {part : List ℕ} {identifier : ℕ} {d : List ℕ} {r : Built} {last : List ℕ} → length d ≤ 550 → length d + 4 ≤ length part
-    → Answers part identifier d r last → last ≡ over (frame identifier d) part
-unfolding answered
-answer-written {part = part} {identifier = identifier} {d = d} {r = r} h g p =
-    let e : r ≡ Written (length d + 4) = p .answer ∙ rw (le-ltb (length part) (length d + 4) g, le-ltb 550 (length d) h) refl in
-    p .buffer ∙ ap (λ (b : Built). over (bytes-of b identifier d) part) e
+-- ---- The bytes of an answer: its first byte stands before what a callee laid over the part behind it.
+pub first-byte : (b : ℕ) (w before last : List ℕ) → 1 ≤ length before → last ≡ over w (midOf 1 (length before - 1) before)
+    → set (putMid 1 (length before - 1) before last) 0 b ≡ over (b ∷ w) before
+first-byte b w [] last h e = absurd (not-suc-le-zero h)
+first-byte b w (x ∷ before) last h e =
+    ap (λ (l : List ℕ). set l 0 b) (tail-back 1 (x ∷ before) last) ∙ ap (λ (l : List ℕ). b ∷ l) (e ∙ ap (over w) (lent-tail 1 (x ∷ before)))
 
--- 06h and a frame.
-pub says-frame : (identifier : ℕ) (d : List ℕ) (consumed : ℕ) (p : Printer) (before : List ℕ) {lengths : Lengths} {r : Built} {last : List ℕ}
-    → 554 ≤ length before → length d ≤ 549 → Answers (midOf 1 (length (set before 0 ack) - 1) (set before 0 ack)) identifier d r last
-    → Lengths-of no-strips lengths
-    → Says
-    (done consumed (frame identifier d) no-strips p)
-    before
-    (record { number = 0; consumed = consumed; answer = length d + 5; strips = lengths; printer = p })
-    (putMid 1 (length (set before 0 ack) - 1) (set before 0 ack) last)
-says-frame identifier d consumed p before {last = last} h g a e =
-    let xs : List ℕ = set before 0 ack in
-    let room : length d + 4 ≤ length (midOf 1 (length xs - 1) xs) = rw lent-tail (simp (length-drop, length-set) (omega arith)) in
-    record {
-      number = refl;
-      consumed = refl;
-      answer = omega (arith, frame-length identifier d);
-      lengths = e;
-      state = refl;
-      bytes = left-behind 1 (ack ∷ []) (frame identifier d) before last xs refl (omega arith) (first-byte ack before (omega arith)) (answer-written (omega arith) room a);
-    }
+pub one-byte : (b : ℕ) (before : List ℕ) → 1 ≤ length before → set before 0 b ≡ over (b ∷ []) before
+one-byte b [] h = absurd (not-suc-le-zero h)
+one-byte b (x ∷ before) h = refl
 
--- ---- An outcome that is another.
-pub says-same : {o o′ : Outcome} {before : List ℕ} {r : Answered} {after : List ℕ} → o′ ≡ o → Says o before r after → Says o′ before r after
-says-same {before = before} {r = r} {after = after} e s = subst (λ (o : Outcome). Says o before r after) (sym e) s
+-- ---- What is settled: a silent number, a refusal, and an order that is done.
+pub meets-silent : (p : Printer) {number : ℕ} (m answer strips : List ℕ) {a : Answered} → (number ≡ 0 → ⊥) → Silent number a
+    → Meets (silent p number) m answer strips a m answer strips
+meets-silent p {number} m answer strips n s =
+    rw (s .answered)
+    (record {
+      gives = refl;
+      consumes = refl;
+      answers = refl;
+      prints = refl;
+      leaves = rw (ne-eqb number 0 n);
+      answer-bytes = refl;
+      strip-bytes = refl;
+    })
 
-pub says-changed : {consumed : ℕ} (p : Printer) (c : Change) {before : List ℕ} {r : Answered} {after : List ℕ} → c .number ≡ 0
-    → Says (done consumed [] no-strips (c .printer)) before r after → Says (after-change consumed p c) before r after
-says-changed p c e s = rw (eq-eqb (c .number) 0 e) s
+-- What stands in the answer buffer before its first byte is settled does not matter where that byte is all.
+pub meets-refusal : (p : Printer) {number consumed frame : ℕ} (m : List ℕ) {answer : List ℕ} (strips : List ℕ) {before : List ℕ} {a : Answered} {answer′ : List ℕ} → (number ≡ 0 → ⊥)
+    → set before 0 nack ≡ over (nack ∷ []) answer → Settles number consumed frame before a answer′ → Meets (refusal p number consumed) m answer strips a m answer′ strips
+meets-refusal p {number} {consumed} {frame} m strips {before} n q s =
+    rw (s .answered)
+    (record {
+      gives = refl;
+      consumes = refl;
+      answers = rw (ne-eqb number 0 n);
+      prints = refl;
+      leaves = rw (ne-eqb number 0 n);
+      answer-bytes = s .bytes ∙ rw (ne-eqb number 0 n) q;
+      strip-bytes = refl;
+    })
 
-pub says-refused : {consumed : ℕ} {p : Printer} (c : Change) {before : List ℕ} {r : Answered} {after : List ℕ} → (c .number ≡ 0 → ⊥)
-    → Says (refusal (c .number) consumed p) before r after → Says (after-change consumed p c) before r after
-says-refused c e s = rw (ne-eqb (c .number) 0 e) s
+pub meets-done : (o : Order) {number consumed : ℕ} (m : List ℕ) {answer : List ℕ} (strips : List ℕ) {before : List ℕ} {a : Answered} {m′ answer′ : List ℕ} → o .strips ≡ no-strips → number ≡ 0
+    → set before 0 ack ≡ over (ack ∷ o .frame) answer → Settles number consumed (length (o .frame)) before a answer′ → m′ ≡ bytes-of (o .after)
+    → Meets (done o consumed) m answer strips a m′ answer′ strips
+meets-done o {number} m strips e n q s k =
+    rw (s .answered)
+    (record {
+      gives = n;
+      consumes = refl;
+      answers = rw (eq-eqb number 0 n) (omega arith);
+      prints = rw e;
+      leaves = k;
+      answer-bytes = s .bytes ∙ rw (eq-eqb number 0 n) q;
+      strip-bytes = rw e;
+    })
 
--- Without strips the strip buffer stays.
-pub meets-quiet : {o : Outcome} {answer : List ℕ} (strips : List ℕ) {r : Answered} {answer′ : List ℕ} → all-strips (o .strips) ≡ []
-    → Says o answer r answer′ → Meets o answer strips r answer′ strips
-meets-quiet strips e s = record { says = s; strip-bytes = rw e }
+-- ---- An order that changes the state, and one that asks for a frame.
+pub record Changes (o : Order) : Type 0 where
+  pub numbers : numbered (o .tests) ≡ true
+  pub frame : o .frame ≡ []
+  pub strips : o .strips ≡ no-strips
 
--- The lengths of the strips in the place of those of an answer without strips.
-pub meets-printed : {consumed : ℕ} {q : Printer} {answer strips : List ℕ} {r : Answered} {answer′ strips′ : List ℕ} (all : Strips) {lengths : Lengths}
-    → Says (done consumed [] no-strips q) answer r answer′ → Lengths-of all lengths → strips′ ≡ over (all-strips all) strips
-    → Meets
-    (done consumed [] all q)
-    answer
-    strips
-    (record { number = r .number; consumed = r .consumed; answer = r .answer; strips = lengths; printer = r .printer })
-    answer′
-    strips′
-meets-printed all s l b =
-    record {
-      says = record { number = s .number; consumed = s .consumed; answer = s .answer; lengths = l; state = s .state; bytes = s .bytes };
+pub record Asks (p : Printer) (o : Order) : Type 0 where
+  pub numbers : numbered (o .tests) ≡ true
+  pub after : o .after ≡ p
+  pub strips : o .strips ≡ no-strips
+
+pub meets-changed : (p : Printer) (o : Order) {number consumed : ℕ} {m answer : List ℕ} (strips : List ℕ) {a : Answered} {m′ answer′ : List ℕ} → Changes o
+    → 1 ≤ length answer → Obeys o m number m′ → Settles number consumed 0 answer a answer′ → Meets (obeyed p o consumed) m answer strips a m′ answer′ strips
+meets-changed p o {number} {consumed} {m} {answer} strips {a} {m′} {answer′} k h c s = go (all (o .tests)) refl
+  where
+    go : (t : Bool) → all (o .tests) ≡ t → Meets (obeyed p o consumed) m answer strips a m′ answer′ strips
+    go true e =
+        meets-same (obeyed-done p o consumed e)
+        (meets-done o m strips {before = answer} (k .strips) (c .number ∙ given-exactly (o .tests) (k .numbers) .0 e) (rw (k .frame) (one-byte ack answer h)) (rw (k .frame) s) (c .state ∙ rw e))
+    go false e =
+        let same : m′ ≡ m = c .state ∙ rw e in
+        rw same
+        (meets-same (obeyed-refused p o consumed e)
+        (meets-refusal p m strips (not-zero (given-exactly (o .tests) (k .numbers) .1 e)) (one-byte nack answer h) (rw (c .number) at s)))
+
+pub meets-told : (p : Printer) (o : Order) {consumed : ℕ} {m answer : List ℕ} (strips : List ℕ) {t : Told} {last : List ℕ} {a : Answered} {answer′ : List ℕ} → Asks p o
+    → bytes-of p ≡ m → 1 ≤ length answer → Tells o (midOf 1 (length answer - 1) answer) t last
+    → Settles (t .number) consumed (t .size) (putMid 1 (length answer - 1) answer last) a answer′ → Meets (obeyed p o consumed) m answer strips a m answer′ strips
+meets-told p o {consumed} {m} {answer} strips {t} {last} {a} {answer′} k b h c s = go (all (o .tests)) refl
+  where
+    go : (holds : Bool) → all (o .tests) ≡ holds → Meets (obeyed p o consumed) m answer strips a m answer′ strips
+    go true e =
+        let size : t .size ≡ length (o .frame) = c .size ∙ rw e in
+        meets-same (obeyed-done p o consumed e)
+        (meets-done o m strips (k .strips) (c .number ∙ given-exactly (o .tests) (k .numbers) .0 e) (first-byte ack (o .frame) answer last h (c .bytes ∙ rw e)) (rw size at s) (sym b ∙ ap bytes-of (sym (k .after))))
+    go false e =
+        meets-same (obeyed-refused p o consumed e)
+        (meets-refusal p m strips (not-zero (given-exactly (o .tests) (k .numbers) .1 e)) (first-byte nack [] answer last h (c .bytes ∙ rw e)) (rw (c .number) at s))
+
+-- The frame that is told has its place in the part that was lent for it.
+pub told-fits : {o : Order} (answer : List ℕ) {t : Told} {last : List ℕ} → Tells o (midOf 1 (length answer - 1) answer) t last → 1 ≤ length answer
+    → length (putMid 1 (length answer - 1) answer last) ≡ length answer → t .size + 1 ≤ length (putMid 1 (length answer - 1) answer last)
+told-fits answer {last = last} c h e =
+    omega (
+      arith,
+      c .size,
+      simp length-append at (ap length (c .bytes)),
+      ap length (tail-back 1 answer last),
+      length-append (take 1 answer) last,
+      length-take 1 answer,
+    )
+
+-- ---- An order that prints: the lengths of its strips stand in the place of none.
+pub meets-printed : (o : Order) {number consumed : ℕ} (m : List ℕ) {answer strips : List ℕ} {a : Answered} {m′ answer′ strips′ lengths : List ℕ} → o .frame ≡ [] → number ≡ 0 → 1 ≤ length answer
+    → Settles number consumed 0 answer a answer′ → m′ ≡ bytes-of (o .after) → lengths ≡ map length (o .strips) → strips′ ≡ over (joined (o .strips)) strips
+    → Meets (done o consumed) m answer strips (record { number = a .number; consumed = a .consumed; answer = a .answer; strips = lengths }) m′ answer′ strips′
+meets-printed o {number} m {answer} e n h s k l b =
+    rw (s .answered)
+    (record {
+      gives = n;
+      consumes = refl;
+      answers = rw (e, eq-eqb number 0 n);
+      prints = l;
+      leaves = k;
+      answer-bytes = s .bytes ∙ rw (eq-eqb number 0 n) (one-byte ack answer h ∙ ap (λ (f : List ℕ). over (ack ∷ f) answer) (sym e));
       strip-bytes = b;
-    }
+    })
 
--- ---- Outcomes without strips.
-quiet : Outcome → Type 0
-quiet o = all-strips (o .strips) ≡ []
+-- ---- The orders of document 01.
+pub message-changes : (p : Printer) (d : List ℕ) → Changes (set-message p d)
+unfolding set-message
+message-changes p d = record { numbers = refl; frame = refl; strips = refl }
 
-pub change-quiet : (consumed : ℕ) (p : Printer) (c : Change) → all-strips (after-change consumed p c .strips) ≡ []
-unfolding quiet
-change-quiet consumed p c = pick-case quiet (eqb (c .number) 0) _ _ (λ _. refl) (λ _. refl)
+pub parameters-change : (p : Printer) (d : List ℕ) → Changes (set-parameters p d)
+unfolding set-parameters
+parameters-change p d = record { numbers = refl; frame = refl; strips = refl }
 
-told-quiet : (consumed : ℕ) (p : Printer) (t : Told) → quiet (after-told consumed p t)
-unfolding quiet
-told-quiet consumed p t = pick-case quiet (eqb (t .number) 0) _ _ (λ _. refl) (λ _. refl)
+pub both-change : (p : Printer) (d : List ℕ) → Changes (set-both p d)
+unfolding set-both
+both-change p d = record { numbers = refl; frame = refl; strips = refl }
 
-pub asked-quiet : (p : Printer) (identifier : ℕ) (d : List ℕ) (consumed : ℕ) → all-strips (asked p identifier d consumed .strips) ≡ []
-unfolding asked quiet
-asked-quiet p identifier d consumed =
-    pick-case quiet (eqb identifier 0x0A) _ _ (λ _. change-quiet consumed p (set-message p d)) (λ _.
-    pick-case quiet (eqb identifier 0x0B) _ _ (λ _. change-quiet consumed p (set-parameters p d)) (λ _.
-    pick-case quiet (eqb identifier 0x0C) _ _ (λ _. change-quiet consumed p (set-both p d)) (λ _.
-    pick-case quiet (eqb identifier 0x39) _ _ (λ _. told-quiet consumed p (ask-counter p d)) (λ _.
-    pick-case quiet (eqb identifier 0x42) _ _ (λ _. change-quiet consumed p (edit-message p d)) (λ _.
-    pick-case quiet (eqb identifier 0x43) _ _ (λ _. told-quiet consumed p (ask-message p d)) (λ _.
-    pick-case quiet (eqb identifier 0x52) _ _ (λ _. told-quiet consumed p ask-table) (λ _.
-    told-quiet consumed p (ask-clock p))))))))
+pub edit-changes : (p : Printer) (d : List ℕ) → Changes (edit-message p d)
+unfolding edit-message
+edit-changes p d = record { numbers = refl; frame = refl; strips = refl }
+
+pub fields-change : (p : Printer) (text : List ℕ) → Changes (update-fields p text)
+unfolding update-fields
+fields-change p text = record { numbers = refl; frame = refl; strips = refl }
+
+pub enquiry-changes : (p : Printer) → Changes (enquire p)
+enquiry-changes p = record { numbers = refl; frame = refl; strips = refl }
+
+pub counter-asks : (p : Printer) (d : List ℕ) → Asks p (ask-counter p d)
+unfolding ask-counter
+counter-asks p d = record { numbers = refl; after = refl; strips = refl }
+
+pub message-asks : (p : Printer) (d : List ℕ) → Asks p (ask-message p d)
+unfolding ask-message
+message-asks p d = record { numbers = refl; after = refl; strips = refl }
+
+pub table-asks : (p : Printer) → Asks p (ask-table p)
+unfolding ask-table
+table-asks p = record { numbers = refl; after = refl; strips = refl }
+
+pub clock-asks : (p : Printer) → Asks p (ask-clock p)
+unfolding ask-clock
+clock-asks p = record { numbers = refl; after = refl; strips = refl }

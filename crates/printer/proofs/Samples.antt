@@ -8,15 +8,14 @@ use Rattle.content.specs.Byte.{is-character, is-expansion, is-count, kind-of, c
 use Rattle.content.specs.Machine.{with-line, with-field}
 use Rattle.content.specs.Content.{verdict, is-content, tested}
 use Rattle.content.specs.Position.{mark-of}
-use Rattle.content.specs.Edit.{edited}
-use Rattle.printer.specs.Clock.{is-leap, days-in, is-real}
-use Rattle.printer.specs.Parameters.{good-parameters}
-use Rattle.printer.specs.Jet.{has-jet, valid-message, valid-counting, valid-jet}
-use Rattle.printer.specs.State.{jet-at, with-jet, valid}
+use Rattle.printer.specs.Clock.{is-leap, days-in, is-date, is-real}
+use Rattle.printer.specs.Counter.{good-settings, valid-counter, counter-of, counter-bytes}
+use Rattle.printer.specs.Jet.{has-jet, valid-message, valid-jet, jet-of, jet-bytes}
+use Rattle.printer.specs.State.{empty-jet, valid, printer-of, bytes-of, valid-state}
 use Rattle.printer.specs.Change.{set-message, edit-message}
-use Rattle.printer.specs.Receive.{asked, obeyed, outcome}
+use Rattle.printer.specs.Receive.{order, obeyed, outcome}
 use Rattle.printer.specs.Samples.{samples, come-out}
 
 pub samples-hold : map come-out samples ≡ samples
-unfolding size-of received updated judged framed frame is-character is-expansion is-count kind-of code-of with-line with-field verdict is-content tested mark-of edited is-leap days-in is-real good-parameters has-jet valid-message valid-counting valid-jet jet-at with-jet valid set-message edit-message asked obeyed outcome
+unfolding size-of received updated judged framed frame is-character is-expansion is-count kind-of code-of with-line with-field verdict is-content tested mark-of is-leap days-in is-date is-real good-settings valid-counter counter-of counter-bytes has-jet valid-message valid-jet jet-of jet-bytes empty-jet valid printer-of bytes-of valid-state set-message edit-message order obeyed outcome
 samples-hold = refl

@@ -1,38 +1,39 @@
 -- The other calls of the box: a fresh printer, setting the clock, and a tick.
 use Prim.Native.Nat.{ℕ}
+use mathlib.Core.List.{List, [], _∷_}
 use mathlib.Core.Path.{_≡_}
-use Rattle.frame.specs.Ground.{unless, within}
-use Rattle.printer.specs.Clock.{is-real, moment, tick}
-use Rattle.printer.specs.State.{valid, fresh-printer, with-clock}
-use Rattle.printer.specs.Change.{refused, changed}
+use lib.Dec.{eqb}
+use lib.ListN.{length}
+use Rattle.frame.specs.Ground.{Test, Refusal, within, pick, test, checked}
+use Rattle.printer.specs.Clock.{is-real, date, moment, tick}
+use Rattle.printer.specs.State.{Printer, valid-state, printer-of, bytes-of, state-size, fresh-printer, with-clock}
+use Rattle.printer.specs.Order.{Order, change, given}
 use Rattle.printer.specs.declared.clock.Clock.{Clock}
-use Rattle.printer.specs.declared.state.Printer.{Printer}
-use Rattle.printer.specs.declared.change.Change.{Change}
 
 -- 01, Other calls: "both give the fresh type 1 at 1 January 2000, midnight".
 abbrev pub first-printer : Printer
-first-printer = fresh-printer 1 (moment 0 0 0 1 1 0)
+first-printer = fresh-printer 1 (moment 0 0 0 (date 1 1 0))
 
--- 01, Other calls: "a fresh printer (14 type not 1 to 4, then 15 clock not a real moment [..])".
-unfoldable pub fresh : ℕ → Clock → Change
-fresh kind clock =
-    unless (within 1 4 kind) (refused 14 first-printer)
-    (unless (is-real clock) (refused 15 first-printer) (changed (fresh-printer kind clock)))
+-- 01, Other calls: "a fresh printer (14 type not 1 to 4, then 15 clock not a real moment [..])". Bytes that are no state's size get 1
+-- and stay.
+abbrev pub fresh-tests : ℕ → Clock → List Test
+fresh-tests model clock = test (within 1 4 model) 14 ∷ test (is-real clock) 15 ∷ []
+
+abbrev pub fresh : ℕ → Clock → Printer
+fresh model clock = checked (fresh-tests model clock) (λ (r : Refusal). first-printer) (fresh-printer model clock)
+
+abbrev pub fresh-number : List ℕ → ℕ → Clock → ℕ
+fresh-number m model clock = given (test (eqb (length m) state-size) 1 ∷ fresh-tests model clock)
 
 -- 01, Other calls: "set the clock (1, 15) and tick (1), state unchanged when refused".
-unfoldable pub clock-set : Printer → Clock → Change
-clock-set p clock =
-    unless (valid p) (refused 1 p) (unless (is-real clock) (refused 15 p) (changed (with-clock p clock)))
+unfoldable pub set-clock : List ℕ → Clock → Order
+set-clock m clock =
+    change (test (valid-state m) 1 ∷ test (is-real clock) 15 ∷ []) (with-clock (printer-of m) clock)
 
-unfoldable pub ticked : Printer → Change
-ticked p = unless (valid p) (refused 1 p) (changed (with-clock p (tick (p .clock))))
+unfoldable pub tick-clock : List ℕ → Order
+tick-clock m = change (test (valid-state m) 1 ∷ []) (with-clock (printer-of m) (tick (printer-of m .clock)))
 
--- The contracts: what is handed back is the rule's value.
-pub record Freshens (kind : ℕ) (clock : Clock) (r : Change) : Type 0 where
-  pub answer : r ≡ fresh kind clock
-
-pub record SetsClock (p : Printer) (clock : Clock) (r : Change) : Type 0 where
-  pub answer : r ≡ clock-set p clock
-
-pub record Ticks (p : Printer) (r : Change) : Type 0 where
-  pub answer : r ≡ ticked p
+-- The contracts: the number handed back, and the state's bytes behind the call.
+pub record Freshens (m : List ℕ) (model : ℕ) (clock : Clock) (r : ℕ) (m′ : List ℕ) : Type 0 where
+  pub number : r ≡ fresh-number m model clock
+  pub state : m′ ≡ pick (eqb (length m) state-size) (bytes-of (fresh model clock)) m

@@ -1,93 +1,77 @@
--- What the frames 0Ah, 0Bh, 0Ch, 42h and a field update change, and the number each gets.
+-- What the frames 0Ah, 0Bh, 0Ch, 42h and a field update change.
 use Prim.Native.Nat.{ℕ, _+_}
 use mathlib.Core.Bool.{Bool}
-use mathlib.Core.List.{List}
+use mathlib.Core.List.{List, [], _∷_}
 use lib.Dec.{eqb, ltb}
 use lib.ListN.{getD, take, drop}
-use Rattle.frame.specs.Ground.{unless}
+use mathlib.Core.Path.{_≡_}
+use Rattle.frame.specs.Ground.{pick, test}
 use Rattle.frame.specs.Wire.{word}
 use Rattle.content.specs.Byte.{all-characters}
 use Rattle.content.specs.Machine.{start}
 use Rattle.content.specs.Content.{is-content}
-use Rattle.content.specs.Position.{field-positions}
-use Rattle.content.specs.Edit as edit
+use Rattle.content.specs.Position.{marks, field-positions}
+use Rattle.content.specs.Edit.{addressed, edited, number, replaced}
 use Rattle.content.specs.Update.{laid}
-use Rattle.printer.specs.Parameters.{good-parameters}
-use Rattle.printer.specs.Jet.{has-jet, jet-of, has-message, message, with-message, with-parameters}
-use Rattle.printer.specs.State.{jet-at, with-jet}
-use Rattle.printer.specs.declared.jet.Jet.{Jet}
-use Rattle.printer.specs.declared.state.Printer.{Printer}
-use Rattle.printer.specs.declared.change.Change.{Change}
+use Rattle.printer.specs.Jet.{Jet, head-jet, has-message, message, good-parameters, with-message, with-parameters, jet-bytes}
+use Rattle.printer.specs.State.{Printer, jet-at, with-jet}
+use Rattle.printer.specs.Order.{Order, change, on-printer, jet-in, with-jet-in}
 
--- 01, Numbers: "For 1 to 13 the state stays".
-abbrev pub refused : ℕ → Printer → Change
-refused number p = record { number = number; printer = p }
+-- 01, On the wire: 0Ah "jet, content". 01, Numbers: 8 "jet not on this printer", 10 "not a content".
+unfoldable pub set-message : Printer → List ℕ → Order
+set-message p d =
+    change
+    (test (on-printer p d) 8 ∷ test (is-content (drop 1 d)) 10 ∷ [])
+    (with-jet-in p d (with-message (jet-in p d) (drop 1 d)))
 
-abbrev pub changed : Printer → Change
-changed p = record { number = 0; printer = p }
-
--- The first data byte is the jet number: whether that jet is on the printer, what it is, and the state with another in its place.
-abbrev pub jet-number : List ℕ → ℕ
-jet-number d = getD d 0 0
-
-abbrev pub on-printer : Printer → List ℕ → Bool
-on-printer p d = has-jet (p .kind) (jet-number d)
-
-abbrev pub jet-in : Printer → List ℕ → Jet
-jet-in p d = jet-at p (jet-number d)
-
-abbrev pub with-jet-in : Printer → List ℕ → Jet → Printer
-with-jet-in p d j = with-jet p (jet-number d) j
-
--- Parameters stand right behind the jet number.
+-- 0Bh "jet, 37 parameter bytes". 9 "parameters not good".
 abbrev pub parameters-in : List ℕ → List ℕ
 parameters-in d = take 37 (drop 1 d)
 
--- 01, On the wire: 0Ah "jet, content". 01, Numbers: 8 "jet not on this printer", 10 "not a content".
-unfoldable pub set-message : Printer → List ℕ → Change
-set-message p d =
-    unless (on-printer p d) (refused 8 p)
-    (unless (is-content (drop 1 d)) (refused 10 p) (changed (with-jet-in p d (with-message (jet-in p d) (drop 1 d)))))
-
--- 0Bh "jet, 37 parameter bytes". 9 "parameters not good".
-unfoldable pub set-parameters : Printer → List ℕ → Change
+unfoldable pub set-parameters : Printer → List ℕ → Order
 set-parameters p d =
-    unless (on-printer p d) (refused 8 p)
-    (unless (good-parameters (parameters-in d)) (refused 9 p)
-    (changed (with-jet-in p d (with-parameters (jet-in p d) (parameters-in d)))))
+    change
+    (test (on-printer p d) 8 ∷ test (good-parameters (parameters-in d)) 9 ∷ [])
+    (with-jet-in p d (with-parameters (jet-in p d) (parameters-in d)))
 
 -- 0Ch "jet, 37 parameter bytes, content".
-unfoldable pub set-both : Printer → List ℕ → Change
-set-both p d =
-    unless (on-printer p d) (refused 8 p)
-    (unless (good-parameters (parameters-in d)) (refused 9 p)
-    (unless (is-content (drop 38 d)) (refused 10 p)
-    (changed (with-jet-in p d (with-parameters (with-message (jet-in p d) (drop 38 d)) (parameters-in d))))))
+abbrev pub with-both : Jet → List ℕ → List ℕ → Jet
+with-both j q c = with-parameters (with-message j c) q
 
--- 42h "jet, address (2), symbols". 11 "no content"; then 12 and 13 as the edit says.
+unfoldable pub set-both : Printer → List ℕ → Order
+set-both p d =
+    change
+    (test (on-printer p d) 8 ∷ test (good-parameters (parameters-in d)) 9 ∷ test (is-content (drop 38 d)) 10 ∷ [])
+    (with-jet-in p d (with-both (jet-in p d) (parameters-in d) (drop 38 d)))
+
+-- 42h "jet, address (2), symbols". 11 "no content", 12 "an addressed byte is no character position", 13 "a new symbol [..] is no
+-- character". 01, What an accepted frame does: "42h replaces bytes from the address on".
 abbrev pub address-in : List ℕ → ℕ
 address-in d = word (getD d 1 0) (getD d 2 0)
 
 abbrev pub edited-jet : Jet → ℕ → List ℕ → Jet
-edited-jet j address symbols = with-message j (edit.replaced (message j) address symbols)
+edited-jet j address symbols = with-message j (replaced (message j) address symbols)
 
-abbrev pub edit-number : Jet → List ℕ → ℕ
-edit-number j d = edit.number (edit.edited (message j) (address-in d) (drop 3 d))
-
-unfoldable pub edit-message : Printer → List ℕ → Change
+unfoldable pub edit-message : Printer → List ℕ → Order
 edit-message p d =
-    unless (on-printer p d) (refused 8 p)
-    (unless (has-message (jet-in p d)) (refused 11 p)
-    (unless (eqb (edit-number (jet-in p d) d) 0) (refused (edit-number (jet-in p d) d) p)
-    (changed (with-jet-in p d (edited-jet (jet-in p d) (address-in d) (drop 3 d))))))
+    change
+    (test (on-printer p d) 8
+    ∷ test (has-message (jet-in p d)) 11
+    ∷ test (addressed (drop 3 d) (drop (address-in d) (marks start (message (jet-in p d))))) 12
+    ∷ test (all-characters (drop 3 d)) 13
+    ∷ [])
+    (with-jet-in p d (edited-jet (jet-in p d) (address-in d) (drop 3 d)))
 
 -- 01, What an accepted frame does: "An update lays its characters over the character positions of external fields on head 1, jets
 -- ascending, fields in order". 11 "no field position on head 1", 13 "an update byte is no character".
 abbrev pub first-of-head : Printer → Jet
-first-of-head p = jet-at p (jet-of 1 0)
+first-of-head p = jet-at p (head-jet 1 0)
 
 abbrev pub second-of-head : Printer → Jet
-second-of-head p = jet-at p (jet-of 1 1)
+second-of-head p = jet-at p (head-jet 1 1)
+
+abbrev pub positions : Jet → ℕ
+positions j = field-positions (message j)
 
 abbrev pub updated-jet : Jet → List ℕ → Jet
 updated-jet j text = with-message j (laid text start (message j))
@@ -95,11 +79,17 @@ updated-jet j text = with-message j (laid text start (message j))
 abbrev pub updated-head : Printer → List ℕ → Printer
 updated-head p text =
     with-jet
-    (with-jet p (jet-of 1 0) (updated-jet (first-of-head p) text))
-    (jet-of 1 1)
-    (updated-jet (second-of-head p) (drop (field-positions (message (first-of-head p))) text))
+    (with-jet p (head-jet 1 0) (updated-jet (first-of-head p) text))
+    (head-jet 1 1)
+    (updated-jet (second-of-head p) (drop (positions (first-of-head p)) text))
 
-unfoldable pub update-fields : Printer → List ℕ → Change
+unfoldable pub update-fields : Printer → List ℕ → Order
 update-fields p text =
-    unless (ltb 0 (field-positions (message (first-of-head p)) + field-positions (message (second-of-head p)))) (refused 11 p)
-    (unless (all-characters text) (refused 13 p) (changed (updated-head p text)))
+    change
+    (test (ltb 0 (positions (first-of-head p) + positions (second-of-head p))) 11 ∷ test (all-characters text) 13 ∷ [])
+    (updated-head p text)
+
+-- What 42h makes of a jet's bytes: the edit's number, and the jet with its bytes replaced where that is 0.
+pub record EditsJet (j : Jet) (address : ℕ) (symbols b : List ℕ) (r : ℕ) (b′ : List ℕ) : Type 0 where
+  pub gives : r ≡ number (edited (message j) address symbols)
+  pub leaves : b′ ≡ pick (eqb r 0) (jet-bytes (edited-jet j address symbols)) b

@@ -6,6 +6,7 @@ use lib.Dec.{eqb, leb, ltb}
 use lib.ListN.{take, drop}
 use Rattle.frame.specs.Ground.{pick, both, within}
 use Rattle.printer.specs.declared.clock.Clock.{Clock}
+use Rattle.printer.specs.declared.clock.Date.{Date}
 
 -- 01, Parameters, counter, clock: "00 to 99 for 2000 to 2099, Gregorian".
 unfoldable pub is-leap : ℕ → Bool
@@ -17,41 +18,41 @@ days-in month year =
     pick (eqb month 2) (pick (is-leap year) 29 28)
     (pick (eqb month 4) 30 (pick (eqb month 6) 30 (pick (eqb month 9) 30 (pick (eqb month 11) 30 31))))
 
+-- A date is a real day of those years.
+abbrev pub date : ℕ → ℕ → ℕ → Date
+date day month year = record { day = day; month = month; year = year }
+
+unfoldable pub is-date : Date → Bool
+is-date d =
+    both (within 1 12 (d .month)) (both (within 1 (days-in (d .month) (d .year)) (d .day)) (leb (d .year) 99))
+
 -- 01, Parameters, counter, clock: "The clock has seconds to years"; a state's clock is "a real moment".
+abbrev pub moment : ℕ → ℕ → ℕ → Date → Clock
+moment second minute hour date = record { second = second; minute = minute; hour = hour; date = date }
+
 unfoldable pub is-real : Clock → Bool
 is-real c =
-    both (leb (c .second) 59)
-    (both (leb (c .minute) 59)
-    (both (leb (c .hour) 23)
-    (both (within 1 12 (c .month))
-    (both (within 1 (days-in (c .month) (c .year)) (c .day))
-    (leb (c .year) 99)))))
-
-abbrev pub moment : ℕ → ℕ → ℕ → ℕ → ℕ → ℕ → Clock
-moment second minute hour day month year =
-    record { second = second; minute = minute; hour = hour; day = day; month = month; year = year }
+    both (leb (c .second) 59) (both (leb (c .minute) 59) (both (leb (c .hour) 23) (is-date (c .date))))
 
 -- 01, Parameters, counter, clock: "It moves by a call per second; 31 December 2099 23:59:59 is followed by 1 January 2000 00:00:00."
-unfoldable pub next-year : Clock → Clock
-next-year c = pick (ltb (c .year) 99) (moment 0 0 0 1 1 (c .year + 1)) (moment 0 0 0 1 1 0)
+unfoldable pub next-year : Date → Date
+next-year d = pick (ltb (d .year) 99) (date 1 1 (d .year + 1)) (date 1 1 0)
 
-unfoldable pub next-month : Clock → Clock
-next-month c = pick (ltb (c .month) 12) (moment 0 0 0 1 (c .month + 1) (c .year)) (next-year c)
+unfoldable pub next-month : Date → Date
+next-month d = pick (ltb (d .month) 12) (date 1 (d .month + 1) (d .year)) (next-year d)
 
-unfoldable pub next-day : Clock → Clock
-next-day c =
-    pick (ltb (c .day) (days-in (c .month) (c .year))) (moment 0 0 0 (c .day + 1) (c .month) (c .year)) (next-month c)
+unfoldable pub next-date : Date → Date
+next-date d =
+    pick (ltb (d .day) (days-in (d .month) (d .year))) (date (d .day + 1) (d .month) (d .year)) (next-month d)
 
 unfoldable pub next-hour : Clock → Clock
-next-hour c = pick (ltb (c .hour) 23) (moment 0 0 (c .hour + 1) (c .day) (c .month) (c .year)) (next-day c)
+next-hour c = pick (ltb (c .hour) 23) (moment 0 0 (c .hour + 1) (c .date)) (moment 0 0 0 (next-date (c .date)))
 
 unfoldable pub next-minute : Clock → Clock
-next-minute c =
-    pick (ltb (c .minute) 59) (moment 0 (c .minute + 1) (c .hour) (c .day) (c .month) (c .year)) (next-hour c)
+next-minute c = pick (ltb (c .minute) 59) (moment 0 (c .minute + 1) (c .hour) (c .date)) (next-hour c)
 
 unfoldable pub tick : Clock → Clock
-tick c =
-    pick (ltb (c .second) 59) (moment (c .second + 1) (c .minute) (c .hour) (c .day) (c .month) (c .year)) (next-minute c)
+tick c = pick (ltb (c .second) 59) (moment (c .second + 1) (c .minute) (c .hour) (c .date)) (next-minute c)
 
 -- Two digits of a number below 100.
 abbrev pub tens : ℕ → ℕ
@@ -74,6 +75,17 @@ months =
 abbrev pub month-entry : ℕ → List ℕ
 month-entry month = take 3 (drop (3 * (month - 1)) months)
 
+-- 01, What a content is: "Codes 55h 56h 57h are the three characters of the hour's entry, 58h to 5Ah the minute's, 5Bh to 5Dh the
+-- month's, 61h to 63h the day of month's". "The date is the calendar date." What the codes 55h to 6Ch stand for at a moment, one
+-- behind the other; a code that document 01 doesn't have stands for nothing.
+abbrev pub no-entry : List ℕ
+no-entry = 0x00 ∷ 0x00 ∷ 0x00 ∷ []
+
+unfoldable pub entries : Clock → List ℕ
+entries c =
+    entry (c .hour) ++ entry (c .minute) ++ month-entry (c .date .month) ++ no-entry ++ entry (c .date .day)
+    ++ no-entry ++ no-entry ++ no-entry
+
 -- 01, Parameters, counter, clock: "D6h's data: seconds, minutes, hours (2 digits each), 2 spaces, day (2), 5 spaces, month (2), month
 -- letters (3), year (2)."
 abbrev pub two : ℕ → List ℕ
@@ -81,8 +93,8 @@ two n = tens n ∷ ones n ∷ []
 
 unfoldable pub clock-text : Clock → List ℕ
 clock-text c =
-    two (c .second) ++ two (c .minute) ++ two (c .hour) ++ (0x20 ∷ 0x20 ∷ []) ++ two (c .day)
-    ++ (0x20 ∷ 0x20 ∷ 0x20 ∷ 0x20 ∷ 0x20 ∷ []) ++ two (c .month) ++ month-entry (c .month) ++ two (c .year)
+    two (c .second) ++ two (c .minute) ++ two (c .hour) ++ (0x20 ∷ 0x20 ∷ []) ++ two (c .date .day)
+    ++ (0x20 ∷ 0x20 ∷ 0x20 ∷ 0x20 ∷ 0x20 ∷ []) ++ two (c .date .month) ++ month-entry (c .date .month) ++ two (c .date .year)
 
 -- 01, Parameters, counter, clock: "52h's data: "0000", "01" to "96", A to Z, the twelve months."
 abbrev pub numbers : ℕ → ℕ → List ℕ

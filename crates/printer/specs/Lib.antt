@@ -1,20 +1,25 @@
--- The rules of `printer`: the clock, numbers in digits, parameters and counting, the jets, the state, what frames change, what is
--- asked, what is printed, and what the box makes of the bytes handed in; and the laws.
+-- The rules of `printer`, a page for each room.
 pub mod Clock
 pub mod Number
-pub mod Parameters
+pub mod Counter
 pub mod Jet
 pub mod State
+pub mod Order
+pub mod Answer
 pub mod Change
 pub mod Request
 pub mod Print
 pub mod Receive
 pub mod Call
-pub mod Samples
+-- What is true of them, as statements; the demands; that every contract has one outcome; the samples.
 pub mod ClockLaws
+pub mod CounterLaws
+pub mod BytesLaws
 pub mod StateLaws
-pub mod ChangeLaws
+pub mod OrderLaws
+pub mod NumberLaws
 pub mod PrintLaws
 pub mod OutcomeLaws
 pub mod Demands
 pub mod Unique
+pub mod Samples

@@ -1,7 +1,7 @@
--- Numbers in digits: a counter's nine, and what a row of digits comes to.
-use Prim.Native.Nat.{ℕ, _+_, _-_, _*_, _/_, _%_}
+-- Numbers in digits and in bytes: a counter's nine, what a row of digits comes to, and the same for bytes.
+use Prim.Native.Nat.{ℕ, zero, suc, _+_, _-_, _*_, _/_, _%_}
 use mathlib.Core.Bool.{Bool, true}
-use mathlib.Core.List.{List, [], _∷_}
+use mathlib.Core.List.{List, [], _∷_, _++_}
 use Rattle.frame.specs.Ground.{both, within}
 
 -- The digit of a number that a power of ten counts.
@@ -29,3 +29,16 @@ value-from n (b ∷ s) = value-from (n * 10 + (b - 0x30)) s
 
 abbrev pub value : List ℕ → ℕ
 value s = value-from 0 s
+
+-- 01, On the wire: "Numbers of several bytes have the high byte first." What bytes come to, behind a number that was read before them.
+abbrev pub number-from : ℕ → List ℕ → ℕ
+number-from n [] = n
+number-from n (b ∷ s) = number-from (n * 256 + b) s
+
+abbrev pub number-of : List ℕ → ℕ
+number-of s = number-from 0 s
+
+-- A number in so many bytes.
+abbrev pub in-bytes : ℕ → ℕ → List ℕ
+in-bytes zero n = []
+in-bytes (suc count) n = in-bytes count (n / 256) ++ (n % 256 ∷ [])

@@ -3,30 +3,28 @@ use Prim.Native.Nat.{ℕ, _+_}
 use mathlib.Core.List.{List, [], _∷_, _++_}
 use Rattle.frame.specs.Build.{frame}
 use Rattle.content.specs.Content.{tested}
-use Rattle.printer.specs.Clock.{moment}
 use Rattle.printer.specs.Jet.{message}
-use Rattle.printer.specs.State.{fresh-printer}
-use Rattle.printer.specs.Receive.{Outcome, outcome}
-use Rattle.printer.specs.declared.state.Printer.{Printer}
+use Rattle.printer.specs.State.{jet-at, printer-of, bytes-of}
+use Rattle.printer.specs.Receive.{Outcome, outcome, kept, answer-size, strips-size}
+use Rattle.printer.specs.Call.{first-printer}
 
 -- Frames sent to a fresh type 1, the number that the last one gets and the message that jet 1 then holds; or a content and its number.
 pub data Sample : Type 0 where
   sent : List (List ℕ) → ℕ → List ℕ → Sample
   tried : List ℕ → ℕ → Sample
 
--- What a printer makes of one frame, with buffers of the stated size.
-abbrev pub receives : Printer → List ℕ → Outcome
-receives p s = outcome p s 554 6144
+-- What a state makes of one frame, with buffers of the stated size.
+abbrev pub receives : List ℕ → List ℕ → Outcome
+receives m s = outcome m (record { bytes = s; answer-room = answer-size; strip-room = strips-size })
 
 -- The last number and the message of jet 1, when frames are sent one after the other.
-abbrev pub sending : ℕ → Printer → List (List ℕ) → (ℕ × List ℕ)
-sending n p [] = (n, message (p .first))
-sending n p (s ∷ rest) = sending (receives p s .number) (receives p s .printer) rest
+abbrev pub sending : ℕ → List ℕ → List (List ℕ) → (ℕ × List ℕ)
+sending n m [] = (n, message (jet-at (printer-of m) 1))
+sending n m (s ∷ rest) = sending (receives m s .number) (kept (receives m s) m) rest
 
 -- What the rules themselves make of what a sample feeds in.
 abbrev pub come-out : Sample → Sample
-come-out (sent frames n m) =
-    sent frames (sending 0 (fresh-printer 1 (moment 0 0 0 1 1 0)) frames .0) (sending 0 (fresh-printer 1 (moment 0 0 0 1 1 0)) frames .1)
+come-out (sent frames n m) = sent frames (sending 0 (bytes-of first-printer) frames .0) (sending 0 (bytes-of first-printer) frames .1)
 come-out (tried s n) = tried s (tested s)
 
 -- Document 002's example: its content of 18 bytes, and frame A with a check byte.

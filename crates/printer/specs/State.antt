@@ -1,43 +1,79 @@
--- The state of the box: its type, its clock and its four jets.
-use Prim.Native.Nat.{ℕ}
+-- The state of the box: its type, its clock and its four jets, and the bytes that hold them.
+use Prim.Native.Nat.{ℕ, zero, suc, _+_, _*_, _-_}
 use mathlib.Core.Bool.{Bool}
+use mathlib.Core.List.{List, [], _∷_, _++_, map}
 use lib.Dec.{eqb}
-use Rattle.frame.specs.Ground.{pick, both, within}
-use Rattle.printer.specs.Clock.{is-real}
-use Rattle.printer.specs.Jet.{has-jet, valid-jet, empty-jet}
+use lib.ListN.{length, getD, set, take, drop, replicate}
+use Rattle.frame.specs.Ground.{both, within, every, joined}
+use Rattle.content.specs.Content.{longest-message}
+use Rattle.printer.specs.Clock.{is-real, date, moment}
+use Rattle.printer.specs.Counter.{settings-size}
+use Rattle.printer.specs.Jet.{Jet, has-jet, valid-jet, jet-size, jet-of, jet-bytes}
 use Rattle.printer.specs.declared.clock.Clock.{Clock}
-use Rattle.printer.specs.declared.jet.Jet.{Jet}
-use Rattle.printer.specs.declared.state.Printer.{Printer}
 
-abbrev pub printer : ℕ → Clock → Jet → Jet → Jet → Jet → Printer
-printer kind clock first second third fourth =
-    record { kind = kind; clock = clock; first = first; second = second; third = third; fourth = fourth }
+-- A printer's type is its model here; its jets are 1 to 4 in order, also those that it lacks.
+pub record Printer : Type 0 where
+  pub model : ℕ
+  pub clock : Clock
+  pub jets : List Jet
 
--- The jet of a number from 1 to 4.
-unfoldable pub jet-at : Printer → ℕ → Jet
-jet-at p n = pick (eqb n 1) (p .first) (pick (eqb n 2) (p .second) (pick (eqb n 3) (p .third) (p .fourth)))
+-- A jet without a message and without parameters.
+unfoldable pub empty-jet : Jet
+empty-jet =
+    record {
+      length = 0;
+      content = replicate longest-message 0;
+      general = replicate 11 0;
+      counter = record { settings = replicate settings-size 0; set = 0; value = 0; batch = 0 };
+    }
 
-unfoldable pub with-jet : Printer → ℕ → Jet → Printer
-with-jet p n j =
-    pick (eqb n 1) (printer (p .kind) (p .clock) j (p .second) (p .third) (p .fourth))
-    (pick (eqb n 2) (printer (p .kind) (p .clock) (p .first) j (p .third) (p .fourth))
-    (pick (eqb n 3) (printer (p .kind) (p .clock) (p .first) (p .second) j (p .fourth))
-    (printer (p .kind) (p .clock) (p .first) (p .second) (p .third) j)))
+-- The jet of a number from 1 to 4, and the state with another in its place.
+abbrev pub jet-at : Printer → ℕ → Jet
+jet-at p n = getD (p .jets) (n - 1) empty-jet
+
+abbrev pub with-jet : Printer → ℕ → Jet → Printer
+with-jet p n j = record { model = p .model; clock = p .clock; jets = set (p .jets) (n - 1) j }
 
 abbrev pub with-clock : Printer → Clock → Printer
-with-clock p c = printer (p .kind) c (p .first) (p .second) (p .third) (p .fourth)
+with-clock p c = record { model = p .model; clock = c; jets = p .jets }
 
 -- 01, Numbers: "A state is valid if its type is 1 to 4, its clock a real moment, jets it lacks are empty, contents and parameters are
 -- good where present, and the counter lies from initial to final with batch below lot."
+abbrev pub valid-jets : Printer → Bool
+valid-jets p = every (λ (n : ℕ) (j : Jet). valid-jet (has-jet (p .model) n) j) 1 (p .jets)
+
 unfoldable pub valid : Printer → Bool
-valid p =
-    both (within 1 4 (p .kind))
-    (both (is-real (p .clock))
-    (both (valid-jet (has-jet (p .kind) 1) (p .first))
-    (both (valid-jet (has-jet (p .kind) 2) (p .second))
-    (both (valid-jet (has-jet (p .kind) 3) (p .third))
-    (valid-jet (has-jet (p .kind) 4) (p .fourth))))))
+valid p = both (within 1 4 (p .model)) (both (is-real (p .clock)) (valid-jets p))
 
 -- 01, Other calls: "a fresh printer".
 abbrev pub fresh-printer : ℕ → Clock → Printer
-fresh-printer kind clock = printer kind clock empty-jet empty-jet empty-jet empty-jet
+fresh-printer model clock = record { model = model; clock = clock; jets = replicate 4 empty-jet }
+
+-- The 2,243 bytes of a state: type (1), seconds, minutes, hours, day, month, year (1 each), and four jets of 559.
+abbrev pub state-size : ℕ
+state-size = 2243
+
+abbrev pub clock-of : List ℕ → Clock
+clock-of b = moment (getD b 0 0) (getD b 1 0) (getD b 2 0) (date (getD b 3 0) (getD b 4 0) (getD b 5 0))
+
+abbrev pub clock-bytes : Clock → List ℕ
+clock-bytes c =
+    c .second ∷ c .minute ∷ c .hour ∷ c .date .day ∷ c .date .month ∷ c .date .year ∷ []
+
+abbrev pub jets-of : ℕ → List ℕ → List Jet
+jets-of zero b = []
+jets-of (suc count) b = jet-of (take jet-size b) ∷ jets-of count (drop jet-size b)
+
+-- Where the jet of a number begins.
+abbrev pub jet-place : ℕ → ℕ
+jet-place n = 7 + jet-size * (n - 1)
+
+unfoldable pub printer-of : List ℕ → Printer
+printer-of m = record { model = getD m 0 0; clock = clock-of (drop 1 m); jets = jets-of 4 (drop 7 m) }
+
+unfoldable pub bytes-of : Printer → List ℕ
+bytes-of p = p .model ∷ (clock-bytes (p .clock) ++ joined (map jet-bytes (p .jets)))
+
+-- Bytes of another size are no state.
+unfoldable pub valid-state : List ℕ → Bool
+valid-state m = both (eqb (length m) state-size) (valid (printer-of m))

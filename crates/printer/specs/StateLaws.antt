@@ -4,14 +4,13 @@ use Prim.Native.Nat.{ℕ, _≤_}
 use mathlib.Core.Bool.{true}
 use mathlib.Core.List.{List}
 use mathlib.Core.Path.{_≡_}
+use lib.ListN.{length}
 use Rattle.content.specs.Content.{is-content}
-use Rattle.printer.specs.Parameters.{good-parameters}
-use Rattle.printer.specs.Jet.{has-jet, has-message, message, valid-jet, with-message, with-parameters}
-use Rattle.printer.specs.State.{jet-at, with-jet, valid}
-use Rattle.printer.specs.Call.{first-printer, fresh, clock-set, ticked}
+use Rattle.printer.specs.Clock.{is-real, tick}
+use Rattle.printer.specs.Jet.{Jet, has-jet, has-message, message, valid-jet, good-parameters, with-message, with-parameters}
+use Rattle.printer.specs.State.{Printer, jet-at, with-jet, with-clock, valid}
+use Rattle.printer.specs.Call.{first-printer, fresh}
 use Rattle.printer.specs.declared.clock.Clock.{Clock}
-use Rattle.printer.specs.declared.jet.Jet.{Jet}
-use Rattle.printer.specs.declared.state.Printer.{Printer}
 
 -- 01, Other calls: "both give the fresh type 1 at 1 January 2000, midnight", which is valid.
 abbrev pub FirstValid : Type 0
@@ -19,43 +18,29 @@ FirstValid = valid first-printer ≡ true
 
 -- So whatever is asked for, a fresh printer is valid.
 abbrev pub FreshValid : Type 0
-FreshValid = (kind : ℕ) (clock : Clock) → valid (fresh kind clock .printer) ≡ true
+FreshValid = (model : ℕ) (clock : Clock) → valid (fresh model clock) ≡ true
 
--- Setting the clock and a tick lead from a valid state to a valid state.
+-- A real moment and a tick lead from a valid state to a valid state.
 abbrev pub ClockValid : Type 0
-ClockValid = (p : Printer) (clock : Clock) → valid p ≡ true → valid (clock-set p clock .printer) ≡ true
+ClockValid = (p : Printer) (clock : Clock) → valid p ≡ true → is-real clock ≡ true → valid (with-clock p clock) ≡ true
 
 abbrev pub TickValid : Type 0
-TickValid = (p : Printer) → valid p ≡ true → valid (ticked p .printer) ≡ true
-
--- 01, Other calls: "state unchanged when refused".
-abbrev pub ClockRefused : Type 0
-ClockRefused = (p : Printer) (clock : Clock) → (clock-set p clock .number ≡ 0 → ⊥) → clock-set p clock .printer ≡ p
-
-abbrev pub TickRefused : Type 0
-TickRefused = (p : Printer) → (ticked p .number ≡ 0 → ⊥) → ticked p .printer ≡ p
+TickValid = (p : Printer) → valid p ≡ true → valid (with-clock p (tick (p .clock))) ≡ true
 
 -- A jet that is replaced is the new one; every other jet, the type and the clock are as they were.
 abbrev pub JetAtWithJet : Type 0
-JetAtWithJet = (p : Printer) (n : ℕ) (j : Jet) → jet-at (with-jet p n j) n ≡ j
+JetAtWithJet = (p : Printer) (n : ℕ) (j : Jet) → 1 ≤ n → n ≤ length (p .jets) → jet-at (with-jet p n j) n ≡ j
 
 abbrev pub JetAtOther : Type 0
 JetAtOther =
-    (p : Printer) (n m : ℕ) (j : Jet) →
-    (1 ≤ n) × (n ≤ 4) →
-    (1 ≤ m) × (m ≤ 4) →
-    (m ≡ n → ⊥) →
-    jet-at (with-jet p n j) m ≡ jet-at p m
-
-abbrev pub WithJetKeeps : Type 0
-WithJetKeeps = (p : Printer) (n : ℕ) (j : Jet) → (with-jet p n j .kind ≡ p .kind) × (with-jet p n j .clock ≡ p .clock)
+    (p : Printer) (n m : ℕ) (j : Jet) → 1 ≤ n → 1 ≤ m → (m ≡ n → ⊥) → jet-at (with-jet p n j) m ≡ jet-at p m
 
 -- A valid jet in the place of one that the printer has leaves the state valid.
 abbrev pub WithJetValid : Type 0
 WithJetValid =
     (p : Printer) (n : ℕ) (j : Jet) →
     valid p ≡ true →
-    has-jet (p .kind) n ≡ true →
+    has-jet (p .model) n ≡ true →
     valid-jet true j ≡ true →
     valid (with-jet p n j) ≡ true
 

@@ -2,28 +2,28 @@
 use Prim.Native.Nat.{ℕ}
 use mathlib.Core.List.{List}
 use mathlib.Core.Path.{_≡_}
+use Rattle.printer.specs.Order.{Order, Obeys}
 use Rattle.printer.specs.Receive.{Receives}
-use Rattle.printer.specs.Call.{Freshens, SetsClock, Ticks}
+use Rattle.printer.specs.Call.{Freshens, set-clock, tick-clock}
 use Rattle.printer.specs.declared.clock.Clock.{Clock}
-use Rattle.printer.specs.declared.state.Printer.{Printer}
-use Rattle.printer.specs.declared.change.Change.{Change}
 use Rattle.printer.specs.declared.answer.Answered.{Answered}
 
 abbrev pub FreshensUnique : Type 0
 FreshensUnique =
-    (kind : ℕ) (clock : Clock) (r r′ : Change) → Freshens kind clock r → Freshens kind clock r′ → r ≡ r′
+    (m : List ℕ) (model : ℕ) (clock : Clock) (r r′ : ℕ) (m′ m″ : List ℕ) →
+    Freshens m model clock r m′ →
+    Freshens m model clock r′ m″ →
+    (r ≡ r′) × (m′ ≡ m″)
 
-abbrev pub SetsClockUnique : Type 0
-SetsClockUnique =
-    (p : Printer) (clock : Clock) (r r′ : Change) → SetsClock p clock r → SetsClock p clock r′ → r ≡ r′
+-- `set_clock` and `tick` are the orders `set-clock` and `tick-clock`.
+abbrev pub ObeysUnique : Type 0
+ObeysUnique =
+    (o : Order) (m : List ℕ) (r r′ : ℕ) (m′ m″ : List ℕ) → Obeys o m r m′ → Obeys o m r′ m″ → (r ≡ r′) × (m′ ≡ m″)
 
-abbrev pub TicksUnique : Type 0
-TicksUnique = (p : Printer) (r r′ : Change) → Ticks p r → Ticks p r′ → r ≡ r′
-
--- Number, count, answer's length, strips' lengths and state are one answer; then the bytes of the two buffers.
+-- Number, count, answer's length and strips' lengths are one answer; then the bytes of the state and of the two buffers.
 abbrev pub ReceivesUnique : Type 0
 ReceivesUnique =
-    (p : Printer) (s answer strips : List ℕ) (r r′ : Answered) (answer′ answer″ strips′ strips″ : List ℕ) →
-    Receives p s answer strips r answer′ strips′ →
-    Receives p s answer strips r′ answer″ strips″ →
-    (r ≡ r′) × (answer′ ≡ answer″) × (strips′ ≡ strips″)
+    (m s answer strips : List ℕ) (r r′ : Answered) (m′ m″ answer′ answer″ strips′ strips″ : List ℕ) →
+    Receives m s answer strips r m′ answer′ strips′ →
+    Receives m s answer strips r′ m″ answer″ strips″ →
+    (r ≡ r′) × (m′ ≡ m″) × (answer′ ≡ answer″) × (strips′ ≡ strips″)

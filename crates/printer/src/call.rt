@@ -1,93 +1,80 @@
 // The other calls of the box: a fresh printer, setting the clock, and a tick.
-use crate::change::Change;
 use crate::clock::Clock;
-use crate::state::Printer;
-use crate::state::fresh_printer;
-use crate::state::valid;
-use crate::state::with_clock;
+use crate::clock::Date;
+use crate::state::STATE;
+use crate::state::clock;
+use crate::state::put_clock;
+use crate::state::put_fresh;
+use crate::state::valid_state;
+use content::byte::within;
+ghost use lib.ListN.{length};
 ghost use mathlib.Core.Path.{_≡_};
-ghost use Rattle.printer.specs.Call.{Freshens, SetsClock, Ticks, first-printer};
+ghost use Rattle.printer.specs.Call.{Freshens, first-printer, set-clock, tick-clock};
+ghost use Rattle.printer.specs.Order.{Obeys};
+ghost use Rattle.printer.specs.State.{bytes-of, state-size};
 
 // The fresh type 1 at 1 January 2000, midnight.
-fn first_printer() -> Printer
-    ensures { λ r. ⌜ r ≡ first-printer ⌝ }
+fn put_first(state: &mut [u8])
+    requires { ⌜ length (now state) ≡ state-size ⌝ }
+    ensures { λ _. ⌜ now (state .exit) ≡ bytes-of first-printer ⌝ }
 {
-    fresh_printer(
+    put_fresh(
+        state,
         1,
         Clock {
             second: 0,
             minute: 0,
             hour: 0,
-            day: 1,
-            month: 1,
-            year: 0,
+            date: Date {
+                day: 1,
+                month: 1,
+                year: 0,
+            },
         },
-    )
+    );
 }
 
-// A printer of a type at a moment: 14 for another type, 15 for what is no real moment.
-pub fn fresh(kind: u8, clock: Clock) -> Change
-    ensures { λ r. ⌜ Freshens kind clock r ⌝ }
+// A printer of a type at a moment: 1 for bytes of another size than a state's, 14 for another type, 15 for what is no real moment.
+pub fn fresh(state: &mut [u8], model: u8, clock: Clock) -> u8
+    ensures { λ r. ⌜ Freshens (now (state .entry)) model clock r (now (state .exit)) ⌝ }
 {
-    if kind < 1 {
-        return Change {
-            number: 14,
-            printer: first_printer(),
-        };
+    if state.len() != STATE {
+        return 1;
     }
-    if 4 < kind {
-        return Change {
-            number: 14,
-            printer: first_printer(),
-        };
+    if !within(1, 4, model) {
+        put_first(state);
+        return 14;
     }
     if !clock.is_real() {
-        return Change {
-            number: 15,
-            printer: first_printer(),
-        };
+        put_first(state);
+        return 15;
     }
-    Change {
-        number: 0,
-        printer: fresh_printer(kind, clock),
-    }
+    put_fresh(state, model, clock);
+    0
 }
 
 // Sets the clock to any real moment, also an earlier one: 1 for a state that is not valid, 15 for what is no real moment.
-pub fn set_clock(p: Printer, clock: Clock) -> Change
-    ensures { λ r. ⌜ SetsClock p clock r ⌝ }
+pub fn set_clock(state: &mut [u8], clock: Clock) -> u8
+    ensures { λ r. ⌜ Obeys (set-clock (now (state .entry)) clock) (now (state .entry)) r (now (state .exit)) ⌝ }
 {
-    if !valid(p) {
-        return Change {
-            number: 1,
-            printer: p,
-        };
+    if !valid_state(state) {
+        return 1;
     }
     if !clock.is_real() {
-        return Change {
-            number: 15,
-            printer: p,
-        };
+        return 15;
     }
-    Change {
-        number: 0,
-        printer: with_clock(p, clock),
-    }
+    put_clock(state, clock);
+    0
 }
 
 // A second passes: 1 for a state that is not valid.
-pub fn tick(p: Printer) -> Change
-    ensures { λ r. ⌜ Ticks p r ⌝ }
+pub fn tick(state: &mut [u8]) -> u8
+    ensures { λ r. ⌜ Obeys (tick-clock (now (state .entry))) (now (state .entry)) r (now (state .exit)) ⌝ }
 {
-    if !valid(p) {
-        return Change {
-            number: 1,
-            printer: p,
-        };
+    if !valid_state(state) {
+        return 1;
     }
-    let clock = p.clock;
-    Change {
-        number: 0,
-        printer: with_clock(p, clock.tick()),
-    }
+    let now = clock(state);
+    put_clock(state, now.tick());
+    0
 }

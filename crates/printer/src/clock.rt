@@ -2,16 +2,20 @@
 ghost use mathlib.Core.Bool.{true};
 ghost use mathlib.Core.Path.{_≡_};
 ghost use Rattle.frame.specs.Ground.{within};
-ghost use Rattle.printer.specs.Clock.{clock-text, days-in, entry, is-leap, is-real, month-entry, next-day, next-hour, next-minute, next-month, next-year, ones, table-text, tens, tick};
+ghost use Rattle.printer.specs.Clock.{clock-text, days-in, entries, is-date, is-leap, is-real, month-entry, next-date, next-hour, next-minute, next-month, next-year, ones, tens, tick};
 
 // Years are 0 to 99, for 2000 to 2099.
+pub struct Date {
+    pub day: u8,
+    pub month: u8,
+    pub year: u8,
+}
+
 pub struct Clock {
     pub second: u8,
     pub minute: u8,
     pub hour: u8,
-    pub day: u8,
-    pub month: u8,
-    pub year: u8,
+    pub date: Date,
 }
 
 // The letters of the twelve months, three each.
@@ -54,20 +58,11 @@ fn days_in(month: u8, year: u8) -> u8
     31
 }
 
-impl Clock {
-    // A moment of the years 2000 to 2099.
-    pub fn is_real(self) -> bool
-        ensures { λ r. ⌜ r ≡ is-real self ⌝ }
+impl Date {
+    // A day of the years 2000 to 2099.
+    fn is_date(self) -> bool
+        ensures { λ r. ⌜ r ≡ is-date self ⌝ }
     {
-        if 59 < self.second {
-            return false;
-        }
-        if 59 < self.minute {
-            return false;
-        }
-        if 23 < self.hour {
-            return false;
-        }
         if self.month < 1 {
             return false;
         }
@@ -83,39 +78,30 @@ impl Clock {
         self.year <= 99
     }
 
-    fn next_year(self) -> Clock
+    fn next_year(self) -> Date
         ensures { λ r. ⌜ r ≡ next-year self ⌝ }
     {
         let year = self.year;
         if year < 99 {
-            return Clock {
-                second: 0,
-                minute: 0,
-                hour: 0,
+            return Date {
                 day: 1,
                 month: 1,
                 year: year + 1,
             };
         }
-        Clock {
-            second: 0,
-            minute: 0,
-            hour: 0,
+        Date {
             day: 1,
             month: 1,
             year: 0,
         }
     }
 
-    fn next_month(self) -> Clock
+    fn next_month(self) -> Date
         ensures { λ r. ⌜ r ≡ next-month self ⌝ }
     {
         let month = self.month;
         if month < 12 {
-            return Clock {
-                second: 0,
-                minute: 0,
-                hour: 0,
+            return Date {
                 day: 1,
                 month: month + 1,
                 year: self.year,
@@ -124,15 +110,13 @@ impl Clock {
         self.next_year()
     }
 
-    fn next_day(self) -> Clock
-        ensures { λ r. ⌜ r ≡ next-day self ⌝ }
+    // The day after.
+    fn next_date(self) -> Date
+        ensures { λ r. ⌜ r ≡ next-date self ⌝ }
     {
         let day = self.day;
         if day < days_in(self.month, self.year) {
-            return Clock {
-                second: 0,
-                minute: 0,
-                hour: 0,
+            return Date {
                 day: day + 1,
                 month: self.month,
                 year: self.year,
@@ -140,36 +124,58 @@ impl Clock {
         }
         self.next_month()
     }
+}
+
+impl Clock {
+    // A moment of the years 2000 to 2099.
+    pub fn is_real(self) -> bool
+        ensures { λ r. ⌜ r ≡ is-real self ⌝ }
+    {
+        if 59 < self.second {
+            return false;
+        }
+        if 59 < self.minute {
+            return false;
+        }
+        if 23 < self.hour {
+            return false;
+        }
+        let date = self.date;
+        date.is_date()
+    }
 
     fn next_hour(self) -> Clock
         ensures { λ r. ⌜ r ≡ next-hour self ⌝ }
     {
         let hour = self.hour;
+        let date = self.date;
         if hour < 23 {
             return Clock {
                 second: 0,
                 minute: 0,
                 hour: hour + 1,
-                day: self.day,
-                month: self.month,
-                year: self.year,
+                date,
             };
         }
-        self.next_day()
+        Clock {
+            second: 0,
+            minute: 0,
+            hour: 0,
+            date: date.next_date(),
+        }
     }
 
     fn next_minute(self) -> Clock
         ensures { λ r. ⌜ r ≡ next-minute self ⌝ }
     {
         let minute = self.minute;
+        let date = self.date;
         if minute < 59 {
             return Clock {
                 second: 0,
                 minute: minute + 1,
                 hour: self.hour,
-                day: self.day,
-                month: self.month,
-                year: self.year,
+                date,
             };
         }
         self.next_hour()
@@ -180,14 +186,13 @@ impl Clock {
         ensures { λ r. ⌜ r ≡ tick self ⌝ }
     {
         let second = self.second;
+        let date = self.date;
         if second < 59 {
             return Clock {
                 second: second + 1,
                 minute: self.minute,
                 hour: self.hour,
-                day: self.day,
-                month: self.month,
-                year: self.year,
+                date,
             };
         }
         self.next_minute()
@@ -206,14 +211,8 @@ fn ones(n: u8) -> u8
     n % 10 + 0x30
 }
 
-// The entry of an hour, a minute or a day of month: two digits and a 00h, which prints nothing.
-pub(crate) fn entry(n: u8) -> [u8; 3]
-    ensures { λ r. ⌜ r ≡ entry n ⌝ }
-{
-    [tens(n), ones(n), 0x00]
-}
-
-pub(crate) fn month_entry(month: u8) -> [u8; 3]
+// The letters of a month.
+fn month_entry(month: u8) -> [u8; 3]
     requires { ⌜ within 1 12 month ≡ true ⌝ }
     ensures { λ r. ⌜ r ≡ month-entry month ⌝ }
 {
@@ -221,12 +220,48 @@ pub(crate) fn month_entry(month: u8) -> [u8; 3]
     [MONTHS[i], MONTHS[i + 1], MONTHS[i + 2]]
 }
 
+// What the codes of date items stand for at a moment, code b at b - 55h.
+pub(crate) fn entries(c: Clock) -> [u8; 24]
+    requires { ⌜ is-real c ≡ true ⌝ }
+    ensures { λ r. ⌜ r ≡ entries c ⌝ }
+{
+    let date = c.date;
+    let letters = month_entry(date.month);
+    [
+        tens(c.hour),
+        ones(c.hour),
+        0x00,
+        tens(c.minute),
+        ones(c.minute),
+        0x00,
+        letters[0],
+        letters[1],
+        letters[2],
+        0x00,
+        0x00,
+        0x00,
+        tens(date.day),
+        ones(date.day),
+        0x00,
+        0x00,
+        0x00,
+        0x00,
+        0x00,
+        0x00,
+        0x00,
+        0x00,
+        0x00,
+        0x00,
+    ]
+}
+
 // D6h's answer.
 pub(crate) fn clock_text(c: Clock) -> [u8; 22]
     requires { ⌜ is-real c ≡ true ⌝ }
     ensures { λ r. ⌜ r ≡ clock-text c ⌝ }
 {
-    let letters = month_entry(c.month);
+    let date = c.date;
+    let letters = month_entry(date.month);
     [
         tens(c.second),
         ones(c.second),
@@ -236,29 +271,23 @@ pub(crate) fn clock_text(c: Clock) -> [u8; 22]
         ones(c.hour),
         0x20,
         0x20,
-        tens(c.day),
-        ones(c.day),
+        tens(date.day),
+        ones(date.day),
         0x20,
         0x20,
         0x20,
         0x20,
         0x20,
-        tens(c.month),
-        ones(c.month),
+        tens(date.month),
+        ones(date.month),
         letters[0],
         letters[1],
         letters[2],
-        tens(c.year),
-        ones(c.year),
+        tens(date.year),
+        ones(date.year),
     ]
 }
 
 // 52h's answer: "0000", "01" to "96", A to Z, the twelve months.
-const TABLE: [u8; 258] =
+pub(crate) const TABLE: [u8; 258] =
     *b"0000010203040506070809101112131415161718192021222324252627282930313233343536373839404142434445464748495051525354555657585960616263646566676869707172737475767778798081828384858687888990919293949596ABCDEFGHIJKLMNOPQRSTUVWXYZJANFEVMARAVRMAIJUNJUIAOUSEPOCTNOVDEC";
-
-pub(crate) fn table_text() -> [u8; 258]
-    ensures { λ r. ⌜ r ≡ table-text ⌝ }
-{
-    TABLE
-}

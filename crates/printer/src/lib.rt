@@ -1,11 +1,11 @@
-// The box: jets and heads, clock, parameters, counters, the state, and every call.
+// The printer: jets and heads, the clock, counters, the state, and every call of the box.
 pub mod answer;
 pub mod call;
 pub mod change;
 pub mod clock;
+pub mod counter;
 pub mod jet;
 pub mod number;
-pub mod parameters;
 pub mod print;
 pub mod receive;
 pub mod request;

@@ -1,115 +1,116 @@
 // The box's main call: what it makes of the bytes handed in since the last one consumed.
+use crate::answer::ANSWER;
 use crate::answer::Answered;
-use crate::answer::acknowledge;
-use crate::answer::refuse;
+use crate::answer::STRIPS;
 use crate::answer::settle;
-use crate::answer::stay_silent;
+use crate::answer::silent;
 use crate::change::edit_message;
 use crate::change::set_both;
 use crate::change::set_message;
 use crate::change::set_parameters;
 use crate::change::update_fields;
-use crate::print::count;
-use crate::print::print_strips;
-use crate::print::ready;
+use crate::print::print;
 use crate::request::ask_clock;
 use crate::request::ask_counter;
 use crate::request::ask_message;
 use crate::request::ask_table;
-use crate::state::Printer;
-use crate::state::valid;
+use crate::state::valid_state;
 use frame::receive::Received;
 use frame::receive::receive as received;
 ghost use Prim.Native.Nat.{_≤_};
 ghost use lib.ListN.{length};
 ghost use mathlib.Core.Bool.{true};
 ghost use mathlib.Core.Path.{_≡_};
+ghost use Rattle.frame.specs.Receive.{received};
 ghost use Rattle.frame.specs.Wire.{fits, size-of};
-ghost use Rattle.printer.specs.Receive.{Meets, Receives, Says, asked, printed};
-ghost use Rattle.printer.specs.State.{valid};
+ghost use Rattle.printer.specs.Receive.{answer-size, handled, Meets, obeyed, order, Receives, strips-size};
+ghost use Rattle.printer.specs.State.{printer-of, valid-state};
 
-// 94h: the strips of all jets, and then every jet counts.
-fn print(p: Printer, consumed: usize, answer: &mut [u8], strips: &mut [u8]) -> Answered
-    requires { ⌜ (valid p ≡ true) × (554 ≤ length (now answer)) × (6144 ≤ length (now strips)) ⌝ }
-    ensures { λ r. ⌜ Meets (printed consumed p) (now (answer .entry)) (now (strips .entry)) r (now (answer .exit)) (now (strips .exit)) ⌝ }
-{
-    if !ready(p) {
-        return refuse(11, consumed, p, answer);
-    }
-    let lengths = print_strips(p, strips);
-    let mut done = acknowledge(consumed, count(p), answer);
-    done.strips = lengths;
-    done
-}
-
-// Every frame but 94h, in the table's order: none of them writes a strip.
-fn obey(p: Printer, identifier: u8, d: &[u8], consumed: usize, answer: &mut [u8]) -> Answered
-    requires { ⌜ (valid p ≡ true) × (554 ≤ length (now answer)) × (fits (size-of identifier) (length (now d)) ≡ true) ⌝ }
-    ensures { λ r. ⌜ Says (asked p identifier (now (d .entry)) consumed) (now (answer .entry)) r (now (answer .exit)) ⌝ }
+// A frame, by its identifier in the table's order.
+fn obey(
+    state: &mut [u8],
+    identifier: u8,
+    d: &[u8],
+    consumed: usize,
+    answer: &mut [u8],
+    strips: &mut [u8],
+) -> Answered
+    requires { ⌜ (valid-state (now state) ≡ true) × (answer-size ≤ length (now answer)) × (strips-size ≤ length (now strips)) × (fits (size-of identifier) (length (now d)) ≡ true) ⌝ }
+    ensures { λ r. ⌜ Meets (obeyed (printer-of (now (state .entry))) (order (printer-of (now (state .entry))) identifier (now (d .entry))) consumed) (now (state .entry)) (now (answer .entry)) (now (strips .entry)) r (now (state .exit)) (now (answer .exit)) (now (strips .exit)) ⌝ }
 {
     if identifier == 0x0A {
-        return settle(p, set_message(p, d), consumed, answer);
+        return settle(set_message(state, d), consumed, 0, answer);
     }
     if identifier == 0x0B {
-        return settle(p, set_parameters(p, d), consumed, answer);
+        return settle(set_parameters(state, d), consumed, 0, answer);
     }
     if identifier == 0x0C {
-        return settle(p, set_both(p, d), consumed, answer);
+        return settle(set_both(state, d), consumed, 0, answer);
     }
     if identifier == 0x39 {
-        return ask_counter(p, d, consumed, answer);
+        let told = ask_counter(state, d, &mut answer[1..]);
+        return settle(told.number, consumed, told.size, answer);
     }
     if identifier == 0x42 {
-        return settle(p, edit_message(p, d), consumed, answer);
+        return settle(edit_message(state, d), consumed, 0, answer);
     }
     if identifier == 0x43 {
-        return ask_message(p, d, consumed, answer);
+        let told = ask_message(state, d, &mut answer[1..]);
+        return settle(told.number, consumed, told.size, answer);
     }
     if identifier == 0x52 {
-        return ask_table(p, consumed, answer);
+        let told = ask_table(&mut answer[1..]);
+        return settle(told.number, consumed, told.size, answer);
     }
-    ask_clock(p, consumed, answer)
+    if identifier == 0x94 {
+        return print(state, consumed, answer, strips);
+    }
+    let told = ask_clock(state, &mut answer[1..]);
+    settle(told.number, consumed, told.size, answer)
 }
 
-// Takes the bytes handed in since the last one consumed; both buffers keep every byte that is not written.
-pub fn receive(p: Printer, s: &[u8], answer: &mut [u8], strips: &mut [u8]) -> Answered
-    ensures { λ r. ⌜ Receives p (now (s .entry)) (now (answer .entry)) (now (strips .entry)) r (now (answer .exit)) (now (strips .exit)) ⌝ }
+// In a valid state, with buffers of the stated size: nothing is tested again.
+pub(crate) fn handle(state: &mut [u8], s: &[u8], answer: &mut [u8], strips: &mut [u8]) -> Answered
+    requires { ⌜ (valid-state (now state) ≡ true) × (answer-size ≤ length (now answer)) × (strips-size ≤ length (now strips)) ⌝ }
+    ensures { λ r. ⌜ Meets (handled (printer-of (now (state .entry))) (now (s .entry)) (received (now (s .entry)))) (now (state .entry)) (now (answer .entry)) (now (strips .entry)) r (now (state .exit)) (now (answer .exit)) (now (strips .exit)) ⌝ }
 {
-    if !valid(p) {
-        return stay_silent(1, p);
-    }
-    if answer.len() < 554 {
-        return stay_silent(2, p);
-    }
-    if strips.len() < 6144 {
-        return stay_silent(2, p);
-    }
     let found = received(s);
     match found {
-        Received::Partial => stay_silent(3, p),
-        Received::Refused { number, consumed } => refuse(number, consumed, p, answer),
+        Received::Partial => silent(3),
+        Received::Refused { number, consumed } => settle(number, consumed, 0, answer),
         Received::Misfit {
             number,
             identifier: _,
             size: _,
             consumed,
-        } => refuse(number, consumed, p, answer),
-        Received::Enquiry => acknowledge(1, p, answer),
+        } => settle(number, consumed, 0, answer),
+        Received::Enquiry => settle(0, 1, 0, answer),
         Received::Update { size, consumed } => settle(
-            p,
-            update_fields(p, &s[1..1 + size]),
+            update_fields(state, &s[1..1 + size]),
             consumed,
+            0,
             answer,
         ),
         Received::Frame {
             identifier,
             size,
             consumed,
-        } => {
-            if identifier == 0x94 {
-                return print(p, consumed, answer, strips);
-            }
-            obey(p, identifier, &s[3..3 + size], consumed, answer)
-        }
+        } => obey(state, identifier, &s[3..3 + size], consumed, answer, strips),
     }
+}
+
+// Takes the bytes handed in since the last one consumed; all buffers keep every byte that is not written.
+pub fn receive(state: &mut [u8], s: &[u8], answer: &mut [u8], strips: &mut [u8]) -> Answered
+    ensures { λ r. ⌜ Receives (now (state .entry)) (now (s .entry)) (now (answer .entry)) (now (strips .entry)) r (now (state .exit)) (now (answer .exit)) (now (strips .exit)) ⌝ }
+{
+    if !valid_state(state) {
+        return silent(1);
+    }
+    if answer.len() < ANSWER {
+        return silent(2);
+    }
+    if strips.len() < STRIPS {
+        return silent(2);
+    }
+    handle(state, s, answer, strips)
 }

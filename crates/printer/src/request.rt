@@ -1,104 +1,116 @@
-// What the frames 39h, 43h, 52h and D6h ask.
-use crate::answer::Answered;
-use crate::answer::refuse;
-use crate::answer::say;
+// What the frames 39h, 43h, 52h and D6h ask: each writes its frame where the answer's stands, behind the 06h.
+use crate::change::place_in;
+use crate::clock::TABLE;
 use crate::clock::clock_text;
-use crate::clock::table_text;
-use crate::jet::JetNumber;
-use crate::jet::has_jet;
+use crate::counter::counter_text;
+use crate::jet::COUNTER_AT;
+use crate::jet::JET;
 use crate::jet::has_message;
-use crate::number::digits;
-use crate::state::Printer;
-use crate::state::jet_at;
+use crate::jet::has_parameters;
+use crate::jet::message;
+use crate::jet::parameters;
+use crate::state::clock;
+use frame::build::answer;
 use frame::build::lay;
-ghost use Prim.Native.Nat.{_≤_};
+use frame::build::wrap;
+use frame::wire::AROUND;
+use frame::wire::HEAD;
+ghost use Prim.Native.Nat.{_≤_, _-_};
 ghost use lib.ListN.{length};
 ghost use mathlib.Core.Bool.{true};
-ghost use mathlib.Core.List.{_++_};
 ghost use mathlib.Core.Path.{_≡_};
-ghost use Rattle.printer.specs.Number.{digits};
-ghost use Rattle.printer.specs.Receive.{Says, after-told};
-ghost use Rattle.printer.specs.Request.{ask-clock, ask-counter, ask-message, ask-table, three-bytes};
-ghost use Rattle.printer.specs.State.{valid};
+ghost use Rattle.printer.specs.Answer.{Tells};
+ghost use Rattle.printer.specs.Request.{ask-clock, ask-counter, ask-message, ask-table};
+ghost use Rattle.printer.specs.State.{Printer, printer-of, state-size, valid-state};
+ghost use Rattle.printer.specs.Receive.{answer-size};
+
+// A number, and for 0 how many bytes the frame has.
+pub(crate) struct Told {
+    pub number: u8,
+    pub size: usize,
+}
 
 // 39h: the counter's digits, and the batch in three bytes.
-pub(crate) fn ask_counter(p: Printer, d: &[u8], consumed: usize, out: &mut [u8]) -> Answered
-    requires { ⌜ (1 ≤ length (now d)) × (554 ≤ length (now out)) ⌝ }
-    ensures { λ r. ⌜ Says (after-told consumed p (ask-counter p (now (d .entry)))) (now (out .entry)) r (now (out .exit)) ⌝ }
+pub(crate) fn ask_counter(state: &[u8], d: &[u8], out: &mut [u8]) -> Told
+    requires { ⌜ (length (now state) ≡ state-size) × (1 ≤ length (now d)) × (answer-size - 1 ≤ length (now out)) ⌝ }
+    ensures { λ r. ⌜ Tells (ask-counter (printer-of (now (state .entry))) (now (d .entry))) (now (out .entry)) r (now (out .exit)) ⌝ }
 {
-    let n = JetNumber(d[0]);
-    if !has_jet(p.kind, n) {
-        return refuse(8, consumed, p, out);
+    let at = place_in(state, d);
+    if at == 0 {
+        return Told { number: 8, size: 0 };
     }
-    let jet = jet_at(p, n);
-    if !jet.set {
-        return refuse(11, consumed, p, out);
+    let end = at + JET;
+    let jet = &state[at..end];
+    if !has_parameters(jet) {
+        return Told {
+            number: 11,
+            size: 0,
+        };
     }
-    let bytes = counter_text(jet.counter, jet.batch);
-    say(0x39, &bytes, consumed, p, out)
+    let text = counter_text(&jet[COUNTER_AT..JET]);
+    answer(out, 0x39, &text);
+    Told {
+        number: 0,
+        size: 12 + AROUND,
+    }
 }
 
-// Nine digits and three bytes.
-fn counter_text(counter: u64, batch: u64) -> [u8; 12]
-    ensures { λ r. ⌜ r ≡ digits counter ++ three-bytes batch ⌝ }
+// 43h: the parameters, and the message behind them, copied from the jet to where the frame has them.
+pub(crate) fn ask_message(state: &[u8], d: &[u8], out: &mut [u8]) -> Told
+    requires { ⌜ (valid-state (now state) ≡ true) × (1 ≤ length (now d)) × (answer-size - 1 ≤ length (now out)) ⌝ }
+    ensures { λ r. ⌜ Tells (ask-message (printer-of (now (state .entry))) (now (d .entry))) (now (out .entry)) r (now (out .exit)) ⌝ }
 {
-    let c = digits(counter);
-    [
-        c[0],
-        c[1],
-        c[2],
-        c[3],
-        c[4],
-        c[5],
-        c[6],
-        c[7],
-        c[8],
-        (batch / 65536 % 256) as u8,
-        (batch / 256 % 256) as u8,
-        (batch % 256) as u8,
-    ]
-}
-
-// 43h: the parameters, and the message behind them.
-pub(crate) fn ask_message(p: Printer, d: &[u8], consumed: usize, out: &mut [u8]) -> Answered
-    requires { ⌜ (1 ≤ length (now d)) × (554 ≤ length (now out)) × (valid p ≡ true) ⌝ }
-    ensures { λ r. ⌜ Says (after-told consumed p (ask-message p (now (d .entry)))) (now (out .entry)) r (now (out .exit)) ⌝ }
-{
-    let n = JetNumber(d[0]);
-    if !has_jet(p.kind, n) {
-        return refuse(8, consumed, p, out);
+    let at = place_in(state, d);
+    if at == 0 {
+        return Told { number: 8, size: 0 };
     }
-    let jet = jet_at(p, n);
+    let end = at + JET;
+    let jet = &state[at..end];
     if !has_message(jet) {
-        return refuse(11, consumed, p, out);
+        return Told {
+            number: 11,
+            size: 0,
+        };
     }
-    if !jet.set {
-        return refuse(11, consumed, p, out);
+    if !has_parameters(jet) {
+        return Told {
+            number: 11,
+            size: 0,
+        };
     }
-    let parameters = jet.parameters;
-    let content = jet.content;
-    let k = jet.length;
-    let mut bytes = [0; 549];
-    lay(&mut bytes, &parameters);
-    lay(&mut bytes[37..], &content[..k]);
-    say(0x43, &bytes[..37 + k], consumed, p, out)
+    let text = message(jet);
+    let n = 37 + text.len();
+    lay(&mut out[HEAD..], parameters(jet));
+    lay(&mut out[HEAD + 37..], text);
+    wrap(out, 0x43, n);
+    Told {
+        number: 0,
+        size: n + AROUND,
+    }
 }
 
 // 52h.
-pub(crate) fn ask_table(p: Printer, consumed: usize, out: &mut [u8]) -> Answered
-    requires { ⌜ 554 ≤ length (now out) ⌝ }
-    ensures { λ r. ⌜ Says (after-told consumed p ask-table) (now (out .entry)) r (now (out .exit)) ⌝ }
+pub(crate) fn ask_table(out: &mut [u8]) -> Told
+    requires { ⌜ answer-size - 1 ≤ length (now out) ⌝ }
+    ensures { λ r. ⌜ ((p : Printer) → Tells (ask-table p) (now (out .entry)) r (now (out .exit))) ⌝ }
 {
-    let bytes = table_text();
-    say(0x52, &bytes, consumed, p, out)
+    let text = TABLE;
+    answer(out, 0x52, &text);
+    Told {
+        number: 0,
+        size: 258 + AROUND,
+    }
 }
 
 // D6h.
-pub(crate) fn ask_clock(p: Printer, consumed: usize, out: &mut [u8]) -> Answered
-    requires { ⌜ (554 ≤ length (now out)) × (valid p ≡ true) ⌝ }
-    ensures { λ r. ⌜ Says (after-told consumed p (ask-clock p)) (now (out .entry)) r (now (out .exit)) ⌝ }
+pub(crate) fn ask_clock(state: &[u8], out: &mut [u8]) -> Told
+    requires { ⌜ (valid-state (now state) ≡ true) × (answer-size - 1 ≤ length (now out)) ⌝ }
+    ensures { λ r. ⌜ Tells (ask-clock (printer-of (now (state .entry)))) (now (out .entry)) r (now (out .exit)) ⌝ }
 {
-    let clock = p.clock;
-    let bytes = clock_text(clock);
-    say(0x9C, &bytes, consumed, p, out)
+    let text = clock_text(clock(state));
+    answer(out, 0x9C, &text);
+    Told {
+        number: 0,
+        size: 22 + AROUND,
+    }
 }

@@ -1,114 +1,145 @@
-// The state of the box, by value: a call is handed one and hands one back.
+// The state: one lent slice, and the only room that knows where in it the type, the clock and each jet lie.
 use crate::clock::Clock;
-use crate::jet::Jet;
+use crate::clock::Date;
+use crate::jet::JET;
 use crate::jet::JetNumber;
-use crate::jet::empty_jet;
 use crate::jet::has_jet;
+use crate::jet::jet_index;
+use crate::jet::jet_number;
+use crate::jet::ready_jet;
 use crate::jet::valid_jet;
+use content::byte::within;
+ghost use Prim.Native.Nat.{_+_, _≤_};
+ghost use lib.ListN.{length, set};
 ghost use mathlib.Core.Path.{_≡_};
-ghost use Rattle.printer.specs.State.{fresh-printer, jet-at, valid, with-clock, with-jet};
+ghost use Rattle.printer.specs.Print.{ready};
+ghost use Rattle.printer.specs.State.{bytes-of, fresh-printer, jet-place, printer-of, state-size, valid-jets, valid-state, with-clock};
+ghost use Rattle.printer.specs.Jet.{jet-size};
 
-pub struct Printer {
-    pub kind: u8,
-    pub clock: Clock,
-    pub first: Jet,
-    pub second: Jet,
-    pub third: Jet,
-    pub fourth: Jet,
+// How many bytes a state has: type (1), seconds, minutes, hours, day, month, year (1 each), and four jets.
+pub const STATE: usize = 2243;
+
+// Where the first jet begins.
+pub(crate) const JETS: usize = 7;
+
+// The part of a state that a jet is begins here.
+pub(crate) fn jet_place(n: JetNumber) -> usize
+    requires { ⌜ (1 ≤ n .0) × (n .0 ≤ 4) ⌝ }
+    ensures { λ r. ⌜ (r ≡ jet-place (n .0)) × (r + jet-size ≤ state-size) ⌝ }
+{
+    JETS + JET * jet_index(n)
 }
 
-// The jet of a number from 1 to 4.
-pub(crate) fn jet_at(p: Printer, n: JetNumber) -> Jet
-    ensures { λ r. ⌜ r ≡ jet-at p (n .0) ⌝ }
+pub(crate) fn model(state: &[u8]) -> u8
+    requires { ⌜ length (now state) ≡ state-size ⌝ }
+    ensures { λ r. ⌜ r ≡ printer-of (now (state .entry)) .model ⌝ }
 {
-    let k = n.0;
-    if k == 1 {
-        let jet = p.first;
-        return jet;
-    }
-    if k == 2 {
-        let jet = p.second;
-        return jet;
-    }
-    if k == 3 {
-        let jet = p.third;
-        return jet;
-    }
-    let jet = p.fourth;
-    jet
+    state[0]
 }
 
-// The state with another jet in the place of that number's.
-pub(crate) fn with_jet(p: Printer, n: JetNumber, jet: Jet) -> Printer
-    ensures { λ r. ⌜ r ≡ with-jet p (n .0) jet ⌝ }
+// The clock, read out.
+pub(crate) fn clock(state: &[u8]) -> Clock
+    requires { ⌜ length (now state) ≡ state-size ⌝ }
+    ensures { λ r. ⌜ r ≡ printer-of (now (state .entry)) .clock ⌝ }
 {
-    let k = n.0;
-    let mut q = p;
-    if k == 1 {
-        q.first = jet;
-        return q;
+    Clock {
+        second: state[1],
+        minute: state[2],
+        hour: state[3],
+        date: Date {
+            day: state[4],
+            month: state[5],
+            year: state[6],
+        },
     }
-    if k == 2 {
-        q.second = jet;
-        return q;
-    }
-    if k == 3 {
-        q.third = jet;
-        return q;
-    }
-    q.fourth = jet;
-    q
 }
 
-pub(crate) fn with_clock(p: Printer, clock: Clock) -> Printer
-    ensures { λ r. ⌜ r ≡ with-clock p clock ⌝ }
+// The date, written back.
+fn put_date(state: &mut [u8], date: Date)
+    requires { ⌜ length (now state) ≡ state-size ⌝ }
+    ensures { λ _. ⌜ now (state .exit) ≡ set (set (set (now (state .entry)) 4 (date .day)) 5 (date .month)) 6 (date .year) ⌝ }
 {
-    let mut q = p;
-    q.clock = clock;
-    q
+    state[4] = date.day;
+    state[5] = date.month;
+    state[6] = date.year;
 }
 
-// Whether a state is one that the box can be in.
-pub(crate) fn valid(p: Printer) -> bool
-    ensures { λ r. ⌜ r ≡ valid p ⌝ }
+// The clock, written back.
+pub(crate) fn put_clock(state: &mut [u8], clock: Clock)
+    requires { ⌜ length (now state) ≡ state-size ⌝ }
+    ensures { λ _. ⌜ now (state .exit) ≡ bytes-of (with-clock (printer-of (now (state .entry))) clock) ⌝ }
 {
-    let kind = p.kind;
-    if kind < 1 {
-        return false;
-    }
-    if 4 < kind {
-        return false;
-    }
-    let clock = p.clock;
-    if !clock.is_real() {
-        return false;
-    }
-    let first = p.first;
-    if !valid_jet(has_jet(kind, JetNumber(1)), first) {
-        return false;
-    }
-    let second = p.second;
-    if !valid_jet(has_jet(kind, JetNumber(2)), second) {
-        return false;
-    }
-    let third = p.third;
-    if !valid_jet(has_jet(kind, JetNumber(3)), third) {
-        return false;
-    }
-    let fourth = p.fourth;
-    valid_jet(has_jet(kind, JetNumber(4)), fourth)
+    state[1] = clock.second;
+    state[2] = clock.minute;
+    state[3] = clock.hour;
+    put_date(state, clock.date);
 }
 
-pub(crate) fn fresh_printer(kind: u8, clock: Clock) -> Printer
-    ensures { λ r. ⌜ r ≡ fresh-printer kind clock ⌝ }
+// Whether all jets of a state are as a valid state may have them.
+fn valid_jets(state: &[u8]) -> bool
+    requires { ⌜ length (now state) ≡ state-size ⌝ }
+    ensures { λ r. ⌜ r ≡ valid-jets (printer-of (now (state .entry))) ⌝ }
 {
-    let jet = empty_jet();
-    Printer {
-        kind,
-        clock,
-        first: jet,
-        second: jet,
-        third: jet,
-        fourth: jet,
+    let model = state[0];
+    let mut n = 1;
+    let mut at = JETS;
+    while n <= 4 {
+        let end = at + JET;
+        if !valid_jet(has_jet(model, jet_number(n)), &state[at..end]) {
+            return false;
+        }
+        n += 1;
+        at = end;
     }
+    true
+}
+
+// Whether bytes are a state that the box can be in.
+pub(crate) fn valid_state(state: &[u8]) -> bool
+    ensures { λ r. ⌜ r ≡ valid-state (now (state .entry)) ⌝ }
+{
+    if state.len() != STATE {
+        return false;
+    }
+    if !within(1, 4, state[0]) {
+        return false;
+    }
+    let now = clock(state);
+    if !now.is_real() {
+        return false;
+    }
+    valid_jets(state)
+}
+
+// Whether each jet of the printer has a message and parameters.
+pub(crate) fn ready(state: &[u8]) -> bool
+    requires { ⌜ length (now state) ≡ state-size ⌝ }
+    ensures { λ r. ⌜ r ≡ ready (printer-of (now (state .entry))) ⌝ }
+{
+    let model = state[0];
+    let mut n = 1;
+    let mut at = JETS;
+    while n <= 4 {
+        let end = at + JET;
+        if !ready_jet(has_jet(model, jet_number(n)), &state[at..end]) {
+            return false;
+        }
+        n += 1;
+        at = end;
+    }
+    true
+}
+
+// A printer of a type at a moment, with empty jets.
+pub(crate) fn put_fresh(state: &mut [u8], model: u8, clock: Clock)
+    requires { ⌜ length (now state) ≡ state-size ⌝ }
+    ensures { λ _. ⌜ now (state .exit) ≡ bytes-of (fresh-printer model clock) ⌝ }
+{
+    let mut i = 0;
+    while i < STATE {
+        state[i] = 0;
+        i += 1;
+    }
+    state[0] = model;
+    put_clock(state, clock);
 }

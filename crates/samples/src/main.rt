@@ -1,20 +1,12 @@
-// Every sample of document 01 that is not marked P, and document 002's other examples of which every byte and a right check byte stand there, run on the box: a line each.
-mod clocks;
-mod contents;
-mod counting;
-mod dates;
-mod drive;
-mod fields;
-mod jets;
-mod manual;
+// The table of samples: standard input is a line for each call, and each is written again with its outcome behind it.
+mod call;
+mod lower;
 mod show;
+mod table;
+mod text;
 
 fn main() {
-    contents::all();
-    counting::all();
-    clocks::all();
-    dates::all();
-    fields::all();
-    jets::all();
-    manual::all();
+    let mut input = io::large_buffer();
+    let n = io::read_full(0, &mut input);
+    table::run(&input[0..n]);
 }

@@ -1,21 +1,32 @@
--- `console::run` meets its contract. The bytes left are fewer at every turn, since a turn that consumes none is the last.
-use Prim.Native.Nat.{_≤_, _-_}
+-- `console::run` meets its contract: the loop keeps that its place was walked to and that the state is that behind the walk's calls.
+use Prim.Native.Nat.{ℕ, _≤_, _-_}
+use mathlib.Core.List.{List}
+use mathlib.Core.Path.{_≡_, refl, sym, subst}
+use native.Mathlib.Omega.{arith}
 use borrow.Author.Needs.{needs}
-use lib.ListN.{length}
+use lib.ListN.{length, take, drop}
+use lib.Seq.{length-take-le}
+use Rattle.console.specs.Console.{line-size, Turns}
+use Rattle.console.proofs.Laws.{At, at-start, goes, stops, fails, moves, ends, rest-lent, line-inside, consumed-inside}
 use Rattle.console.proofs.run.Statement.{statement}
 use Rattle.console.proofs.run.Tie as tie
 
 abbrev Inv-loop : tie.InvT-loop
-Inv-loop s p₀ at₀ p at = at ≤ length s
+Inv-loop state₀ s text₀ at₀ state text at =
+    (at ≤ length s) × (length text ≡ line-size) × (length state ≡ length state₀) × At s state at
 
 abbrev μ-loop : tie.MeasureT-loop
-μ-loop s p₀ at₀ p at = length s - at
+μ-loop state₀ s text₀ at₀ state text at = length s - at
 
-start-requires : tie.Need-start-requires Inv-loop μ-loop
-start-requires c κs = search needs
+turned : (c : tie.After-call Inv-loop μ-loop) → Turns (c .before .before .before .before .before .loop .state) (drop (c .before .before .before .before .before .loop .at) (c .before .before .before .before .before .before .before .before .before .args .s .now)) (c .before .before .before .before .before .loop .text) (c .call .result) (c .call .last .0) (c .call .last .1 .1 .0)
+turned c =
+    subst (λ (l : List ℕ). Turns (c .before .before .before .before .before .loop .state) l (c .before .before .before .before .before .loop .text) (c .call .result) (c .call .last .0) (c .call .last .1 .1 .0)) (rest-lent (c .before .before .before .before .before .loop .at) (c .before .before .before .before .before .before .before .before .before .args .s .now)) (c .call .ensures)
+
+slice-aggregate-text : tie.Need-slice-aggregate-text Inv-loop μ-loop
+slice-aggregate-text c = search needs
 
 loop-holds : tie.Need-loop-holds Inv-loop μ-loop
-loop-holds c = search needs
+loop-holds c = (omega arith, refl, refl, at-start _ _ (search needs))
 
 sub-call : tie.Need-sub-call Inv-loop μ-loop
 sub-call c = search needs
@@ -29,23 +40,41 @@ part-call-end c = search needs
 call-requires : tie.Need-call-requires Inv-loop μ-loop
 call-requires c κs = search needs
 
-returns : tie.Need-returns Inv-loop μ-loop
-returns c = search needs
+same-length : tie.Need-same-length Inv-loop μ-loop
+same-length c = search needs
 
-returns-2 : tie.Need-returns-2 Inv-loop μ-loop
-returns-2 c = search needs
+returns : tie.Need-returns Inv-loop μ-loop
+returns c = stops (c .before .before .before .before .before .before .before .before .before .before .before .loop .inv .3) (turned (c .before .before .before .before .before .before)) (search needs)
 
 add-at : tie.Need-add-at Inv-loop μ-loop
-add-at c = search needs
+add-at c = let h = consumed-inside (c .before .before .before .before .before .before .before .before .before .before .before .before .before .before .args .s .now) (c .before .before .before .before .before .before .before .before .before .before .loop .at) (turned (c .before .before .before .before .before)) (omega arith) in omega arith
+
+slice-reshare-prefix-write-all : tie.Need-slice-reshare-prefix-write-all Inv-loop μ-loop
+slice-reshare-prefix-write-all c = line-inside (turned (c .before .before .before .before .before))
+
+slice-aggregate-write-all : tie.Need-slice-aggregate-write-all Inv-loop μ-loop
+slice-aggregate-write-all c = sym (length-take-le _ _ (line-inside (turned (c .before .before .before .before .before .before))))
+
+write-all-requires : tie.Need-write-all-requires Inv-loop μ-loop
+write-all-requires c κs = search needs
+
+same-length-2 : tie.Need-same-length-2 Inv-loop μ-loop
+same-length-2 c = search needs
+
+returns-2 : tie.Need-returns-2 Inv-loop μ-loop
+returns-2 c = fails (goes (c .before .before .before .before .before .before .before .before .before .before .before .before .before .before .loop .inv .3) (turned (c .before .before .before .before .before .before .before .before .before)) (omega arith) (search needs))
 
 loop-less : tie.Need-loop-less Inv-loop μ-loop
-loop-less c = search needs
+loop-less c = let h = moves (c .before .before .before .before .before .before .before .before .before .before .before .before .before .loop .inv .3) (turned (c .before .before .before .before .before .before .before .before)) (omega arith) (search needs) in omega arith
 
 loop-again : tie.Need-loop-again Inv-loop μ-loop
-loop-again c = search needs
+loop-again c = (consumed-inside (c .before .before .before .before .before .before .before .before .before .before .before .before .before .before .before .before .before .args .s .now) (c .before .before .before .before .before .before .before .before .before .before .before .before .before .loop .at) (turned (c .before .before .before .before .before .before .before .before)) (omega arith), search needs, search needs, goes (c .before .before .before .before .before .before .before .before .before .before .before .before .before .loop .inv .3) (turned (c .before .before .before .before .before .before .before .before)) (omega arith) (search needs))
+
+same-length-3 : tie.Need-same-length-3 Inv-loop μ-loop
+same-length-3 c = search needs
 
 returns-3 : tie.Need-returns-3 Inv-loop μ-loop
-returns-3 c = search needs
+returns-3 c = ends (c .before .before .loop .inv .3) (omega arith)
 
 pub run-spec : {M : Type 1} → statement M
 run-spec =
@@ -53,15 +82,21 @@ run-spec =
     (tie.spec
     Inv-loop
     μ-loop
-    start-requires
+    slice-aggregate-text
     loop-holds
     sub-call
     part-call-start
     part-call-end
     call-requires
+    same-length
     returns
-    returns-2
     add-at
+    slice-reshare-prefix-write-all
+    slice-aggregate-write-all
+    write-all-requires
+    same-length-2
+    returns-2
     loop-less
     loop-again
+    same-length-3
     returns-3)

@@ -1,6 +1,6 @@
 -- `line::hex_digit` meets its contract: its test is the rule's.
 use borrow.Author.Needs.{needs}
-use Rattle.frame.proofs.Laws.{tests}
+use Rattle.frame.proofs.Ground.{tests}
 use Rattle.line.specs.Line.{hex-digit}
 use Rattle.line.proofs.hex_digit.Statement.{statement}
 use Rattle.line.proofs.hex_digit.Tie as tie

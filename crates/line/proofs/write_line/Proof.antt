@@ -6,7 +6,7 @@ use native.Mathlib.Omega.{arith}
 use borrow.Author.Needs.{needs}
 use borrow.Rule.Slice.PartMut.{putMid}
 use lib.ListN.{length, set, length-set, length-drop}
-use Rattle.frame.proofs.Laws.{lent-tail, length-over}
+use Rattle.frame.proofs.Ground.{lent-tail, length-over}
 use Rattle.line.specs.Line.{space, decimal}
 use Rattle.line.proofs.Laws.{most-digits, too-short, written}
 use Rattle.line.proofs.write_line.Statement.{statement}

@@ -10,7 +10,7 @@ use borrow.Author.Tests.{not-true, not-false}
 use native.Mathlib.Omega.{arith}
 use Rattle.content.specs.Byte.{all-characters, is-character}
 use Rattle.frame.specs.Ground.{both}
-use Rattle.frame.proofs.Laws.{drop-next}
+use Rattle.frame.proofs.Ground.{drop-next}
 
 abbrev Inv-loop : tie.InvT-loop
 Inv-loop s i₀ i = (i ≤ length s) × (all-characters s ≡ all-characters (drop i s))

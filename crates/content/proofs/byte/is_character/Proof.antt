@@ -4,12 +4,9 @@ use Rattle.content.proofs.byte.is_character.Statement.{statement}
 use Rattle.content.proofs.byte.is_character.Tie as tie
 use Rattle.content.specs.Byte.{is-character}
 
-within-requires : tie.Need-within-requires
-within-requires c κs = search needs
-
 returns : tie.Need-returns
 unfolding is-character
 returns c = c .within .ensures
 
 pub is-character-spec : {M : Type 1} → statement M
-is-character-spec = tie.close (tie.spec within-requires returns)
+is-character-spec = tie.close (tie.spec (λ c κs. search needs) returns)

@@ -2,7 +2,7 @@
 use borrow.Author.Needs.{needs}
 use Rattle.content.proofs.byte.kind_of.Statement.{statement}
 use Rattle.content.proofs.byte.kind_of.Tie as tie
-use Rattle.frame.proofs.Laws.{tests}
+use Rattle.frame.proofs.Ground.{tests}
 use Rattle.content.specs.Byte.{kind-of}
 
 returns : tie.Need-returns
@@ -29,15 +29,9 @@ returns-6 : tie.Need-returns-6
 unfolding kind-of
 returns-6 c = search tests
 
-is-expansion-requires : tie.Need-is-expansion-requires
-is-expansion-requires c κs = search needs
-
 returns-7 : tie.Need-returns-7
 unfolding kind-of
 returns-7 c = rw (← c .before .is-expansion .ensures, c .if7 .taken) (search tests)
-
-is-character-requires : tie.Need-is-character-requires
-is-character-requires c κs = search needs
 
 returns-8 : tie.Need-returns-8
 unfolding kind-of
@@ -57,8 +51,8 @@ kind-of-spec =
     returns-4
     returns-5
     returns-6
-    is-expansion-requires
+    (λ c κs. search needs)
     returns-7
-    is-character-requires
+    (λ c κs. search needs)
     returns-8
     returns-9)

@@ -1,7 +1,7 @@
 -- `content::byte::within` meets its contract: at each return the tests say which side of the range the byte is on.
 use Rattle.content.proofs.byte.within.Statement.{statement}
 use Rattle.content.proofs.byte.within.Tie as tie
-use Rattle.frame.proofs.Laws.{tests}
+use Rattle.frame.proofs.Ground.{tests}
 
 returns : tie.Need-returns
 returns c = search tests

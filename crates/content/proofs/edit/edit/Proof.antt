@@ -13,14 +13,14 @@ use lib.ListN.{length, take, drop, length-append, length-drop, take-append-drop}
 use lib.Seq.{length-take-le}
 use Rattle.frame.specs.Build.{Lays}
 use Rattle.frame.specs.Ground.{over}
-use Rattle.frame.proofs.Laws.{laid-behind, both-true}
+use Rattle.frame.proofs.Ground.{laid-behind, both-true}
 use Rattle.content.specs.Byte.{all-characters}
 use Rattle.content.specs.Edit.{Edits, addressed, edited, replaced}
 use Rattle.content.specs.Machine.{start}
 use Rattle.content.specs.Position.{marks, is-position}
 use Rattle.content.specs.declared.edit.Edited.the-variants.{Done, NoPosition, NoCharacter}
 use Rattle.content.specs.declared.position.Mark.{Mark}
-use Rattle.content.proofs.Laws.{length-marks}
+use Rattle.content.proofs.Run.{length-marks}
 use Rattle.content.proofs.edit.edit.Statement.{statement}
 use Rattle.content.proofs.edit.edit.Tie as tie
 
@@ -58,23 +58,11 @@ none : (s : List ℕ) (address : ℕ) (symbols : List ℕ) → length symbols �
 none s address [] h = rw (append-nil, add-zero) (sym (take-append-drop address s))
 none s address (x ∷ symbols) h = absurd (not-suc-le-zero h)
 
-addressed-requires : tie.Need-addressed-requires
-addressed-requires c κs = search needs
-
-same-length : tie.Need-same-length
-same-length c = search needs
-
 returns : tie.Need-returns
 returns c =
     let a = c .before .before .before .before .before .args in
     let p = c .before .addressed in
     no-position (a .s .now) (a .address) (a .symbols .now) (p .ensures) (not-true (p .result) (c .if1 .taken))
-
-all-characters-requires : tie.Need-all-characters-requires
-all-characters-requires c κs = search needs
-
-same-length-2 : tie.Need-same-length-2
-same-length-2 c = search needs
 
 returns-2 : tie.Need-returns-2
 returns-2 c =
@@ -82,21 +70,6 @@ returns-2 c =
     let p = c .before .before .before .addressed in
     let q = c .before .all-characters in
     no-character (a .s .now) (a .address) (a .symbols .now) (p .ensures) (not-false (p .result) (c .before .before .if1 .left)) (q .ensures) (not-true (q .result) (c .if2 .taken))
-
-sub-lay : tie.Need-sub-lay
-sub-lay c = search needs
-
-part-lay-start : tie.Need-part-lay-start
-part-lay-start c = search needs
-
-part-lay-end : tie.Need-part-lay-end
-part-lay-end c = search needs
-
-lay-requires : tie.Need-lay-requires
-lay-requires c κs = search needs
-
-same-length-3 : tie.Need-same-length-3
-same-length-3 c = search needs
 
 returns-3 : tie.Need-returns-3
 returns-3 c =
@@ -107,9 +80,6 @@ returns-3 c =
     let f = not-false (p .result) (d .before .before .if1 .left) in
     let laid = written (a .s .now) (a .address) (a .symbols .now) (c .before .before .before .before .if3 .taken) (room (a .s .now) (a .address) (a .symbols .now) (p .ensures) f) (c .before .before .lay .ensures) in
     done (a .s .now) (a .address) (a .symbols .now) (p .ensures) f (q .ensures) (not-false (q .result) (d .if2 .left)) laid
-
-same-length-4 : tie.Need-same-length-4
-same-length-4 c = search needs
 
 returns-4 : tie.Need-returns-4
 returns-4 c =
@@ -125,17 +95,17 @@ pub edit-spec : {M : Type 1} → statement M
 edit-spec =
     tie.close
     (tie.spec
-    addressed-requires
-    same-length
+    (λ c κs. search needs)
+    (λ c. search needs)
     returns
-    all-characters-requires
-    same-length-2
+    (λ c κs. search needs)
+    (λ c. search needs)
     returns-2
-    sub-lay
-    part-lay-start
-    part-lay-end
-    lay-requires
-    same-length-3
+    (λ c. search needs)
+    (λ c. search needs)
+    (λ c. search needs)
+    (λ c κs. search needs)
+    (λ c. search needs)
     returns-3
-    same-length-4
+    (λ c. search needs)
     returns-4)

@@ -1,67 +1,57 @@
--- `content::position::field_positions` meets its contract. The loop keeps that the count so far and the field positions of what is
--- left make up the content's; at the end nothing is left.
+-- `content::position::field_positions` meets its contract. The loop keeps that the count so far and the field positions left make up the
+-- content's; each run adds its bytes or none. The measure is what is left of the length.
 use Prim.Native.Nat.{_+_, _-_, _≤_}
-use mathlib.Core.Logic.{⊎-elim}
-use mathlib.Core.Path.{_≡_, ap}
+use mathlib.Core.Path.{_≡_}
 use native.Mathlib.Omega.{arith}
 use borrow.Author.Needs.{needs}
-use lib.ListN.{length, drop, drop-of-length-le}
-use Rattle.frame.specs.Ground.{pick}
+use lib.ListN.{length, drop}
 use Rattle.content.specs.Position.{field-positions, field-positions-from}
-use Rattle.content.proofs.Laws.{counted-on}
+use Rattle.content.proofs.Stretches.{found, found-none, fields-taken, fields-left, fields-none}
+use Rattle.content.proofs.Tokens.{here}
 use Rattle.content.proofs.position.field_positions.Statement.{statement}
 use Rattle.content.proofs.position.field_positions.Tie as tie
 
 abbrev Inv-loop : tie.InvT-loop
-Inv-loop s mode₀ count₀ i₀ mode count i = (i ≤ length s) × (count ≤ i) × (count + field-positions-from mode (drop i s) ≡ field-positions s)
+Inv-loop s count₀ at₀ place₀ seen₀ count at place seen = (count ≤ at) × (at ≤ length s) × (count + field-positions-from (here place seen) (drop at s) ≡ field-positions s)
 
 abbrev μ-loop : tie.MeasureT-loop
-μ-loop s mode₀ count₀ i₀ mode count i = length s - i
-
-begin-requires : tie.Need-begin-requires Inv-loop μ-loop
-begin-requires c κs = search needs
+μ-loop s count₀ at₀ place₀ seen₀ count at place seen = length s - at
 
 loop-holds : tie.Need-loop-holds Inv-loop μ-loop
-loop-holds c = (omega arith, omega arith, rw (c .begin .ensures) (omega arith))
+loop-holds c = (omega arith, omega arith, omega arith)
 
-shared-slice-read-b : tie.Need-shared-slice-read-b Inv-loop μ-loop
-shared-slice-read-b c = omega arith
+run-at-requires : tie.Need-run-at-requires Inv-loop μ-loop
+run-at-requires c κs = c .loop .inv .1
 
-mark-of-requires : tie.Need-mark-of-requires Inv-loop μ-loop
-mark-of-requires c κs = search needs
+enum-known-run : tie.Need-enum-known-run Inv-loop μ-loop
+enum-known-run c = search needs
 
 is-field-position-requires : tie.Need-is-field-position-requires Inv-loop μ-loop
 is-field-position-requires c κs = search needs
 
+sub-count : tie.Need-sub-count Inv-loop μ-loop
+sub-count c = let r = found (c .before .before .before .before .before .before .before .before .args .s .now) (c .before .before .before .before .before .before .loop .at) (c .before .before .before .before .before .before .loop .place) (c .before .before .before .before .before .before .loop .seen) (c .before .before .before .before .before .run-at .ensures) (c .before .before .before .run .given .1) in omega (arith, r .some)
+
 add-count : tie.Need-add-count Inv-loop μ-loop
-add-count c = omega arith
-
-step-requires : tie.Need-step-requires Inv-loop μ-loop
-step-requires c κs = search needs
-
-add-i : tie.Need-add-i Inv-loop μ-loop
-add-i c = omega arith
+add-count c = let r = found (c .before .before .before .before .before .before .before .before .args .s .now) (c .before .before .before .before .before .before .loop .at) (c .before .before .before .before .before .before .loop .place) (c .before .before .before .before .before .before .loop .seen) (c .before .before .before .before .before .run-at .ensures) (c .before .before .before .run .given .1) in omega (arith, r .ahead, r .some, r .inside)
 
 loop-less : tie.Need-loop-less Inv-loop μ-loop
-loop-less c = omega arith
-
-counted : (c : tie.Joined1 Inv-loop μ-loop) → c .if1 .count ≡ c .before .before .before .before .before .loop .count + pick (c .before .is-field-position .result) 1 0
-counted c = ⊎-elim (λ w. rw (w .0 .taken) (w .1)) (λ w. rw (w .0 .left) (omega arith)) (c .if1 .came)
+loop-less c = let r = found (c .before .before .before .before .before .before .before .before .args .s .now) (c .before .before .before .before .before .before .loop .at) (c .before .before .before .before .before .before .loop .place) (c .before .before .before .before .before .before .loop .seen) (c .before .before .before .before .before .run-at .ensures) (c .before .before .before .run .given .1) in omega (arith, r .ahead, r .some, r .inside)
 
 loop-again : tie.Need-loop-again Inv-loop μ-loop
-loop-again c =
-    let p = c .before .before .before .before .before .before in (
-      omega arith,
-      ⊎-elim (λ w. omega arith) (λ w. omega arith) (c .before .if1 .came),
-      counted-on (p .before .before .before .args .s .now) (p .loop .i) (p .loop .mode) (p .loop .count)
-          (c .before .before .before .before .before .loop-test .taken) (c .before .before .before .mark-of .ensures)
-          (c .before .before .is-field-position .ensures) (c .step .ensures) (counted (c .before)) (p .loop .inv .2),
-    )
+loop-again c = let r = found (c .before .before .before .before .before .before .before .before .args .s .now) (c .before .before .before .before .before .before .loop .at) (c .before .before .before .before .before .before .loop .place) (c .before .before .before .before .before .before .loop .seen) (c .before .before .before .before .before .run-at .ensures) (c .before .before .before .run .given .1) in (omega (arith, r .ahead, r .some), r .inside, fields-taken r (c .before .before .before .before .before .before .loop .count) (field-positions (c .before .before .before .before .before .before .before .before .args .s .now)) (c .before .is-field-position .ensures) (c .before .before .before .before .before .before .loop .inv .2) (c .if1 .taken))
+
+loop-less-2 : tie.Need-loop-less-2 Inv-loop μ-loop
+loop-less-2 c = let r = found (c .before .before .before .before .before .before .before .before .args .s .now) (c .before .before .before .before .before .before .loop .at) (c .before .before .before .before .before .before .loop .place) (c .before .before .before .before .before .before .loop .seen) (c .before .before .before .before .before .run-at .ensures) (c .before .before .before .run .given .1) in omega (arith, r .ahead, r .some, r .inside)
+
+loop-again-2 : tie.Need-loop-again-2 Inv-loop μ-loop
+loop-again-2 c = let r = found (c .before .before .before .before .before .before .before .before .args .s .now) (c .before .before .before .before .before .before .loop .at) (c .before .before .before .before .before .before .loop .place) (c .before .before .before .before .before .before .loop .seen) (c .before .before .before .before .before .run-at .ensures) (c .before .before .before .run .given .1) in (omega (arith, r .ahead, r .some), r .inside, fields-left r (c .before .before .before .before .before .before .loop .count) (field-positions (c .before .before .before .before .before .before .before .before .args .s .now)) (c .before .is-field-position .ensures) (c .before .before .before .before .before .before .loop .inv .2) (c .if1 .left))
+
+enum-told : tie.Need-enum-told Inv-loop μ-loop
+enum-told c = search needs
 
 returns : tie.Need-returns Inv-loop μ-loop
-returns c =
-    let left = drop-of-length-le (c .before .before .before .before .args .s .now) (c .loop-test .left) in
-    omega (arith, ap (field-positions-from (c .before .loop .mode)) left)
+returns c = let e = fields-none (c .before .before .before .before .before .args .s .now) (c .before .before .before .loop .at) (c .before .before .before .loop .place) (c .before .before .before .loop .seen) (found-none (c .before .before .before .before .before .args .s .now) (c .before .before .before .loop .at) (c .before .before .before .loop .place) (c .before .before .before .loop .seen) (c .before .before .run-at .ensures) (c .enum-told .given .1)) in omega (arith, e, c .before .before .before .loop .inv .2)
 
 pub field-positions-spec : {M : Type 1} → statement M
 field-positions-spec =
@@ -69,14 +59,15 @@ field-positions-spec =
     (tie.spec
     Inv-loop
     μ-loop
-    begin-requires
     loop-holds
-    shared-slice-read-b
-    mark-of-requires
+    run-at-requires
+    enum-known-run
     is-field-position-requires
+    sub-count
     add-count
-    step-requires
-    add-i
     loop-less
     loop-again
+    loop-less-2
+    loop-again-2
+    enum-told
     returns)

@@ -1,81 +1,91 @@
--- `content::strip::write_strip` meets its contract. Its tests are those of the rule, in its order: what is no content and what doesn't fit writes nothing, and in a content, which has 512 bytes at the most, the length told is that of the strip written.
-use Prim.Native.Nat.{ℕ, _≤_, _<_}
-use mathlib.Core.Bool.{true, false}
-use mathlib.Core.List.{List}
-use mathlib.Core.Path.{_≡_, refl, sym, _∙_}
+-- `content::strip::write_strip` meets its contract. Its tests are those of the rule, in its order: what is no content and what doesn't fit
+-- writes nothing, and else the strip of the content, which has 512 bytes at the most, is written whole and then laid over the buffer.
+use Prim.Native.Nat.{ℕ, _*_, _-_, _≤_, _<_}
+use mathlib.Core.Bool.{Bool, true, false}
+use mathlib.Core.List.{List, []}
+use mathlib.Core.Path.{_≡_, refl, sym, _∙_, ap}
+use native.Mathlib.Omega.{arith}
 use borrow.Author.Needs.{needs}
-use borrow.Author.Tests.{not-true, not-false, leb-true, lt-ltb, le-ltb}
+use borrow.Author.Tests.{not-true, not-false, leb-true, lt-ltb, le-ltb, le-leb}
 use lib.Dec.{leb}
-use lib.ListN.{length}
-use Rattle.frame.specs.Ground.{over}
-use Rattle.content.specs.Content.{is-content, is-good, verdict}
+use lib.ListN.{length, length-append, take, drop, replicate}
+use lib.Seq.{take-at}
+use Rattle.frame.specs.Build.{Lays}
+use Rattle.frame.specs.Ground.{over, pick}
+use Rattle.content.specs.Content.{is-content, is-good, longest-message, verdict}
 use Rattle.content.specs.Strip.{Strips, strip, stripped}
 use Rattle.content.specs.declared.strip.Stripped.the-variants.{NoContent, Short, Written}
 use Rattle.content.specs.declared.strip.Values.{Values}
-use Rattle.frame.proofs.Laws.{both-true}
+use Rattle.frame.proofs.Ground.{both-true}
+use Rattle.content.proofs.Room.{strip-fits}
+use borrow.Author.Needs.{needs}
 use Rattle.content.proofs.strip.write_strip.Statement.{statement}
 use Rattle.content.proofs.strip.write_strip.Tie as tie
 
--- 512 bytes at most.
-few : (s : List ℕ) → is-content s ≡ true → length s ≤ 512
-unfolding is-content
-few s e = leb-true (length s) 512 (both-true (leb (length s) 512) (is-good (verdict s)) e .0)
+-- The array that the strip is written into.
+abbrev zeros : List ℕ
+zeros = replicate (3 * longest-message) 0
 
-refused : (v : Values) (s before : List ℕ) → is-content s ≡ false → Strips v s before NoContent before
-unfolding stripped
-refused v s before e = record { answer = rw e; buffer = refl }
+front-inside : (x : List ℕ) {n : ℕ} {last : List ℕ} → (n ≡ length x) × (last ≡ over x zeros) → n ≤ length last
+front-inside x p = omega (arith, p .0, ap length (p .1) ∙ length-append x (drop (length x) zeros))
 
-short : (v : Values) (s before : List ℕ) (n : ℕ) → is-content s ≡ true → n ≡ length (strip v s) → length before < n → Strips v s before Short before
-unfolding stripped
-short v s before n e f h = record { answer = rw (e, ← f, lt-ltb (length before) n h); buffer = refl }
+module _ (v : Values) (s : List ℕ) {t : Bool} (e : t ≡ is-content s) where
+  few : t ≡ true → length s ≤ longest-message
+  unfolding is-content
+  few f = leb-true (length s) longest-message (both-true (leb (length s) longest-message) (is-good (verdict s)) (sym e ∙ f) .0)
 
-written : (v : Values) (s before after : List ℕ) (n : ℕ) → is-content s ≡ true → n ≡ length (strip v s) → n ≤ length before
-    → after ≡ over (strip v s) before → Strips v s before (Written n) after
-unfolding stripped
-written v s before after n e f h g = record { answer = rw (e, ← f, le-ltb (length before) n h); buffer = g }
+  fits : length (v .digits) ≡ 9 → t ≡ true → length (strip v s) ≤ 3 * longest-message
+  fits n f = omega (arith, strip-fits v n s, few f)
 
-accepted : (c : tie.Else1) → is-content (c .before .before .before .before .args .s .now) ≡ true
-accepted c = sym (c .before .is-content .ensures) ∙ not-false (c .before .is-content .result) (c .if1 .left)
+  refused : (before : List ℕ) → t ≡ false → Strips v s before NoContent before
+  unfolding stripped
+  refused before f = record { answer = rw (← e, f); buffer = refl }
 
-is-content-requires : tie.Need-is-content-requires
-is-content-requires c κs = search needs
+  module _ (before : List ℕ) {n : ℕ} {whole : List ℕ} (f : t ≡ true) (p : (n ≡ length (strip v s)) × (whole ≡ over (strip v s) zeros)) where
+    short : length before < n → Strips v s before Short before
+    unfolding stripped
+    short h = record { answer = rw (← e, f, ← p .0, lt-ltb (length before) n h); buffer = refl }
+
+    written : {r : Bool} {after : List ℕ} → n ≤ length before → Lays before (take (n - 0) whole) r after → Strips v s before (Written n) after
+    unfolding stripped
+    written h l =
+        let z : n - 0 ≡ n = omega arith in
+        let q : take (n - 0) whole ≡ strip v s = rw z (ap (take n) (p .1)) ∙ take-at (strip v s) (drop (length (strip v s)) zeros) n (sym (p .0)) in
+        record {
+          answer = rw (← e, f, ← p .0, le-ltb (length before) n h);
+          buffer =
+              l .buffer
+              ∙ ap (λ (x : List ℕ). over (pick (leb (length x) (length before)) x []) before) q
+              ∙ ap (λ (b : Bool). over (pick b (strip v s) []) before) (le-leb (length (strip v s)) (length before) (omega (arith, h, p .0)));
+        }
 
 returns : tie.Need-returns
-returns c =
-    let a = c .before .before .before .before .args in
-    refused (a .values) (a .s .now) (a .out .now) (sym (c .before .is-content .ensures) ∙ not-true (c .before .is-content .result) (c .if1 .taken))
+returns c = refused (c .before .before .before .before .args .values) (c .before .before .before .before .args .s .now) (c .before .is-content .ensures) (c .before .before .before .before .args .out .now) (not-true (c .before .is-content .result) (c .if1 .taken))
 
-strip-length-requires : tie.Need-strip-length-requires
-strip-length-requires c κs = few (c .before .before .before .before .args .s .now) (accepted c)
+write-requires : tie.Need-write-requires
+write-requires c κs = fits (c .before .before .before .before .before .args .values) (c .before .before .before .before .before .args .s .now) (c .before .before .is-content .ensures) (search needs) (not-false (c .before .before .is-content .result) (c .before .if1 .left))
 
 returns-2 : tie.Need-returns-2
-returns-2 c =
-    let a = c .before .before .before .before .before .before .args in
-    let told = c .before .strip-length in
-    short (a .values) (a .s .now) (a .out .now) (told .result) (accepted (c .before .before)) (told .ensures) (c .if2 .taken)
+returns-2 c = short (c .before .before .before .before .before .before .before .before .args .values) (c .before .before .before .before .before .before .before .before .args .s .now) (c .before .before .before .before .before .is-content .ensures) (c .before .before .before .before .before .before .before .before .args .out .now) (not-false (c .before .before .before .before .before .is-content .result) (c .before .before .before .before .if1 .left)) (c .before .before .write .ensures) (c .if2 .taken)
 
-put-strip-requires : tie.Need-put-strip-requires
-put-strip-requires c κs = search needs
-
-same-length : tie.Need-same-length
-same-length c = search needs
+part-lay-end : tie.Need-part-lay-end
+part-lay-end c = front-inside (strip (c .before .before .before .before .before .before .before .before .before .before .args .values) (c .before .before .before .before .before .before .before .before .before .before .args .s .now)) (c .before .before .before .before .write .ensures)
 
 returns-3 : tie.Need-returns-3
-returns-3 c =
-    let a = c .before .before .before .before .before .before .before .before .before .before .args in
-    let told = c .before .before .before .before .before .strip-length in
-    let put = c .before .before .put-strip in
-    written (a .values) (a .s .now) (a .out .now) (put .last .1 .1 .0) (told .result)
-    (accepted (c .before .before .before .before .before .before)) (told .ensures) (c .before .before .before .before .if2 .left) (put .ensures)
+returns-3 c = written (c .before .before .before .before .before .before .before .before .before .before .before .before .before .before .args .values) (c .before .before .before .before .before .before .before .before .before .before .before .before .before .before .args .s .now) (c .before .before .before .before .before .before .before .before .before .before .before .is-content .ensures) (c .before .before .before .before .before .before .before .before .before .before .before .before .before .before .args .out .now) (not-false (c .before .before .before .before .before .before .before .before .before .before .before .is-content .result) (c .before .before .before .before .before .before .before .before .before .before .if1 .left)) (c .before .before .before .before .before .before .before .before .write .ensures) (c .before .before .before .before .before .before .if2 .left) (c .before .before .lay .ensures)
 
 pub write-strip-spec : {M : Type 1} → statement M
 write-strip-spec =
     tie.close
     (tie.spec
-    is-content-requires
+    (λ c κs. search needs)
     returns
-    strip-length-requires
+    (λ c. search needs)
+    write-requires
     returns-2
-    put-strip-requires
-    same-length
+    (λ c. search needs)
+    (λ c. search needs)
+    part-lay-end
+    (λ c κs. search needs)
+    (λ c. search needs)
     returns-3)

@@ -9,14 +9,8 @@ returns : tie.Need-returns
 unfolding is-content
 returns c = rw (lt-leb _ 512 (c .if1 .taken))
 
-read-requires : tie.Need-read-requires
-read-requires c κs = search needs
-
 enum-told : tie.Need-enum-told
 enum-told c = search needs
-
-enum-told-2 : tie.Need-enum-told-2
-enum-told-2 c = search needs
 
 returns-2 : tie.Need-returns-2
 unfolding is-content
@@ -28,4 +22,4 @@ returns-3 c = rw (le-leb _ 512 (c .before .before .before .if1 .left), ← c .be
 
 pub is-content-spec : {M : Type 1} → statement M
 is-content-spec =
-    tie.close (tie.spec returns read-requires enum-told enum-told-2 returns-2 returns-3)
+    tie.close (tie.spec returns (λ c κs. search needs) enum-told (λ c. search needs) returns-2 returns-3)

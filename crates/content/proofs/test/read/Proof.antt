@@ -1,37 +1,36 @@
 -- `content::test::read` meets its contract. All three loops keep that what is left of the bytes gives the verdict: the outer two at the
 -- expansion of a block, the inner one at an item. Each step of the code is a law of `Walk`, and at each break the law says that the byte
--- there can't stand there. The measure is what is left of the length.
+-- there can't stand there. The measure is what is left of the length. Of external
+-- fields there are ten at most.
 use Prim.Native.Nat.{_≤_, _-_}
+use mathlib.Core.Path.{_∙_, ap}
 use native.Mathlib.Omega.{arith}
 use borrow.Author.Needs.{needs}
 use lib.ListN.{length}
-use Rattle.content.specs.declared.machine.Mode.the-variants.{Reading}
-use Rattle.content.specs.declared.machine.Spot.the-variants.{Expansion, Inside}
-use Rattle.content.proofs.Walk.{At, Closed, first-line, no-line, expansion, no-expansion, font, no-font, next-item, no-item, closed, next-block, ends, no-end, at-line, next-line, fifth-line}
+use Rattle.content.specs.Byte.{kind-of}
+use Rattle.content.specs.declared.item.Place.the-variants.{Line, Block}
+use Rattle.content.proofs.Tokens.{here}
+use Rattle.content.proofs.Walk.{At, first-line, no-line, expansion, no-expansion, font, no-font, next-item, no-item, closed, next-block, ends, no-end, at-line, next-line, fifth-line}
 use Rattle.content.proofs.test.read.Statement.{statement}
 use Rattle.content.proofs.test.read.Tie as tie
 
 abbrev Inv-block : tie.InvT-block
-Inv-block s at₀ seen₀ place₀ at seen place = (at₀ ≤ at) × At s (Reading (Inside place) seen) at
+Inv-block s at₀ seen₀ at seen = (at₀ ≤ at) × (seen .fields ≤ 10) × At s (here Block seen) at
 
 abbrev μ-block : tie.MeasureT-block
-μ-block s at₀ seen₀ place₀ at seen place = length s - at
+μ-block s at₀ seen₀ at seen = length s - at
 
 abbrev Inv-line : tie.InvT-line
-Inv-line s at₀ seen₀ at seen = (at₀ ≤ at) × At s (Reading Expansion seen) at
+Inv-line s at₀ seen₀ at seen = (at₀ ≤ at) × (seen .fields ≤ 10) × At s (here Line seen) at
 
 abbrev μ-line : tie.MeasureT-line
 μ-line s at₀ seen₀ at seen = length s - at
 
 abbrev Inv-content : tie.InvT-content
-Inv-content s at₀ seen₀ at seen = At s (Reading Expansion seen) at
+Inv-content s at₀ seen₀ at seen = (seen .fields ≤ 10) × At s (here Line seen) at
 
 abbrev μ-content : tie.MeasureT-content
 μ-content s at₀ seen₀ at seen = length s - at
-
--- The items loop is left at what ends the block.
-at-close : (c : tie.After-enum-told Inv-block μ-block Inv-line μ-line Inv-content μ-content) → Closed (c .before .before .before .before .before .before .before .before .before .before .before .before .before .before .before .args .s .now) (c .before .before .before .block .at) (c .before .before .before .block .seen)
-at-close c = closed (c .before .before .before .block .inv .1) (c .before .before .token-at .ensures) (c .enum-told .given .1)
 
 byte-at-requires :
     tie.Need-byte-at-requires Inv-block μ-block Inv-line μ-line Inv-content μ-content
@@ -41,10 +40,10 @@ returns : tie.Need-returns Inv-block μ-block Inv-line μ-line Inv-content μ-co
 returns c = record { answer = no-line (c .before .before .before .args .s .now) (c .before .byte-at .ensures) (c .if1 .taken) }
 
 content-holds : tie.Need-content-holds Inv-block μ-block Inv-line μ-line Inv-content μ-content
-content-holds c = first-line (c .before .before .before .args .s .now) (c .before .byte-at .ensures) (c .if1 .left)
+content-holds c = (omega arith, first-line (c .before .before .before .args .s .now) (c .before .byte-at .ensures) (c .if1 .left))
 
 line-holds : tie.Need-line-holds Inv-block μ-block Inv-line μ-line Inv-content μ-content
-line-holds c = (omega arith, c .content .inv)
+line-holds c = (omega arith, c .content .inv .0, c .content .inv .1)
 
 byte-at-requires-2 :
     tie.Need-byte-at-requires-2 Inv-block μ-block Inv-line μ-line Inv-content μ-content
@@ -69,21 +68,32 @@ add-at-2 : tie.Need-add-at-2 Inv-block μ-block Inv-line μ-line Inv-content μ-
 add-at-2 c = omega arith
 
 block-holds : tie.Need-block-holds Inv-block μ-block Inv-line μ-line Inv-content μ-content
-block-holds c = (omega arith, font (expansion (c .before .before .before .before .before .before .line .inv .1) (c .before .before .before .before .before .byte-at2 .ensures) (c .before .before .before .before .is-expansion .ensures) (c .before .before .before .if2 .left)) (c .before .before .byte-at3 .ensures) (c .before .is-count .ensures) (c .if3 .left))
+block-holds c = (omega arith, c .before .before .before .before .before .before .line .inv .1, font (expansion (c .before .before .before .before .before .before .line .inv .2) (c .before .before .before .before .before .byte-at2 .ensures) (c .before .before .before .before .is-expansion .ensures) (c .before .before .before .if2 .left)) (c .before .before .byte-at3 .ensures) (c .before .is-count .ensures) (c .if3 .left))
 
-token-at-requires :
-    tie.Need-token-at-requires Inv-block μ-block Inv-line μ-line Inv-content μ-content
-token-at-requires c κs = search needs
+byte-at-requires-4 :
+    tie.Need-byte-at-requires-4 Inv-block μ-block Inv-line μ-line Inv-content μ-content
+byte-at-requires-4 c κs = search needs
+
+kind-of-requires :
+    tie.Need-kind-of-requires Inv-block μ-block Inv-line μ-line Inv-content μ-content
+kind-of-requires c κs = search needs
+
+item-at-requires :
+    tie.Need-item-at-requires Inv-block μ-block Inv-line μ-line Inv-content μ-content
+item-at-requires c κs = (c .before .before .block .inv .2 .inside, c .kind-of .ensures ∙ ap kind-of (c .before .byte-at4 .ensures))
 
 enum-known-found :
     tie.Need-enum-known-found Inv-block μ-block Inv-line μ-line Inv-content μ-content
 enum-known-found c = search needs
 
+passed-requires : tie.Need-passed-requires Inv-block μ-block Inv-line μ-line Inv-content μ-content
+passed-requires c κs = omega arith
+
 block-less : tie.Need-block-less Inv-block μ-block Inv-line μ-line Inv-content μ-content
-block-less c = let g = next-item (c .before .before .before .before .block .inv .1) (c .before .before .before .token-at .ensures) (c .before .found .given .1) in omega arith
+block-less c = let g = next-item (c .before .before .before .before .before .before .before .block .inv .2) (c .before .before .before .before .before .before .before .block .inv .1) (c .before .before .before .before .before .before .byte-at4 .ensures) (c .before .before .before .before .before .kind-of .ensures) (c .before .before .before .before .item-at .ensures) (c .before .before .found .given .1) (c .passed .ensures) in omega (arith, g .0, g .2 .inside)
 
 block-again : tie.Need-block-again Inv-block μ-block Inv-line μ-line Inv-content μ-content
-block-again c = let g = next-item (c .before .before .before .before .block .inv .1) (c .before .before .before .token-at .ensures) (c .before .found .given .1) in (omega arith, g .1)
+block-again c = let g = next-item (c .before .before .before .before .before .before .before .block .inv .2) (c .before .before .before .before .before .before .before .block .inv .1) (c .before .before .before .before .before .before .byte-at4 .ensures) (c .before .before .before .before .before .kind-of .ensures) (c .before .before .before .before .item-at .ensures) (c .before .before .found .given .1) (c .passed .ensures) in (omega (arith, g .0), g .1, g .2)
 
 enum-told : tie.Need-enum-told Inv-block μ-block Inv-line μ-line Inv-content μ-content
 enum-told c = search needs
@@ -92,9 +102,9 @@ enum-known-found-2 :
     tie.Need-enum-known-found-2 Inv-block μ-block Inv-line μ-line Inv-content μ-content
 enum-known-found-2 c = search needs
 
-byte-at-requires-4 :
-    tie.Need-byte-at-requires-4 Inv-block μ-block Inv-line μ-line Inv-content μ-content
-byte-at-requires-4 c κs = search needs
+byte-at-requires-5 :
+    tie.Need-byte-at-requires-5 Inv-block μ-block Inv-line μ-line Inv-content μ-content
+byte-at-requires-5 c κs = search needs
 
 is-expansion-requires-2 :
     tie.Need-is-expansion-requires-2 Inv-block μ-block Inv-line μ-line Inv-content μ-content
@@ -104,17 +114,17 @@ line-less : tie.Need-line-less Inv-block μ-block Inv-line μ-line Inv-content �
 line-less c = omega arith
 
 line-again : tie.Need-line-again Inv-block μ-block Inv-line μ-line Inv-content μ-content
-line-again c = (omega arith, next-block (at-close (c .before .before .before)) (c .before .before .byte-at4 .ensures) (c .before .is-expansion2 .ensures) (c .if4 .left))
+line-again c = (omega arith, c .before .before .before .before .before .before .before .before .block .inv .1, next-block (closed (c .before .before .before .before .before .before .before .before .block .inv .2) (c .before .before .before .before .before .before .before .byte-at4 .ensures) (c .before .before .before .before .before .before .kind-of .ensures) (c .before .before .before .before .before .item-at .ensures) (c .before .before .before .enum-told .given .1)) (c .before .before .byte-at5 .ensures) (c .before .is-expansion2 .ensures) (c .if4 .left))
 
-byte-at-requires-5 :
-    tie.Need-byte-at-requires-5 Inv-block μ-block Inv-line μ-line Inv-content μ-content
-byte-at-requires-5 c κs = search needs
+byte-at-requires-6 :
+    tie.Need-byte-at-requires-6 Inv-block μ-block Inv-line μ-line Inv-content μ-content
+byte-at-requires-6 c κs = search needs
 
 add-at-3 : tie.Need-add-at-3 Inv-block μ-block Inv-line μ-line Inv-content μ-content
 add-at-3 c = omega arith
 
 returns-2 : tie.Need-returns-2 Inv-block μ-block Inv-line μ-line Inv-content μ-content
-returns-2 c = record { answer = ends (at-close (c .before .before .before .before .before .before)) (c .before .before .byte-at5 .ensures) (c .before .if5 .taken) (c .if6 .taken) }
+returns-2 c = record { answer = ends (closed (c .before .before .before .before .before .before .before .before .before .before .before .block .inv .2) (c .before .before .before .before .before .before .before .before .before .before .byte-at4 .ensures) (c .before .before .before .before .before .before .before .before .before .kind-of .ensures) (c .before .before .before .before .before .before .before .before .item-at .ensures) (c .before .before .before .before .before .before .enum-told .given .1)) (c .before .before .byte-at6 .ensures) (c .before .if5 .taken) (c .if6 .taken) }
 
 add-seen : tie.Need-add-seen Inv-block μ-block Inv-line μ-line Inv-content μ-content
 add-seen c = omega arith
@@ -126,22 +136,22 @@ content-less : tie.Need-content-less Inv-block μ-block Inv-line μ-line Inv-con
 content-less c = omega arith
 
 content-again : tie.Need-content-again Inv-block μ-block Inv-line μ-line Inv-content μ-content
-content-again c = next-line (at-close (c .before .before .before .before .before .before)) (at-line (at-close (c .before .before .before .before .before .before)) (c .before .before .before .before .before .byte-at4 .ensures) (c .before .before .before .before .is-expansion2 .ensures) (c .before .before .before .if4 .taken) (c .before .before .byte-at5 .ensures) (c .before .if5 .left)) (c .if7 .left)
+content-again c = (c .before .before .before .before .before .before .before .before .before .before .before .block .inv .1, next-line (closed (c .before .before .before .before .before .before .before .before .before .before .before .block .inv .2) (c .before .before .before .before .before .before .before .before .before .before .byte-at4 .ensures) (c .before .before .before .before .before .before .before .before .before .kind-of .ensures) (c .before .before .before .before .before .before .before .before .item-at .ensures) (c .before .before .before .before .before .before .enum-told .given .1)) (at-line (closed (c .before .before .before .before .before .before .before .before .before .before .before .block .inv .2) (c .before .before .before .before .before .before .before .before .before .before .byte-at4 .ensures) (c .before .before .before .before .before .before .before .before .before .kind-of .ensures) (c .before .before .before .before .before .before .before .before .item-at .ensures) (c .before .before .before .before .before .before .enum-told .given .1)) (c .before .before .before .before .before .byte-at5 .ensures) (c .before .before .before .before .is-expansion2 .ensures) (c .before .before .before .if4 .taken) (c .before .before .byte-at6 .ensures) (c .before .if5 .left)) (c .if7 .left))
 
 returns-3 : tie.Need-returns-3 Inv-block μ-block Inv-line μ-line Inv-content μ-content
-returns-3 c = record { answer = no-expansion (c .before .before .before .line .inv .1) (c .before .before .byte-at2 .ensures) (c .before .is-expansion .ensures) (c .if2 .taken) }
+returns-3 c = record { answer = no-expansion (c .before .before .before .line .inv .2) (c .before .before .byte-at2 .ensures) (c .before .is-expansion .ensures) (c .if2 .taken) }
 
 returns-4 : tie.Need-returns-4 Inv-block μ-block Inv-line μ-line Inv-content μ-content
-returns-4 c = record { answer = no-font (expansion (c .before .before .before .before .before .before .line .inv .1) (c .before .before .before .before .before .byte-at2 .ensures) (c .before .before .before .before .is-expansion .ensures) (c .before .before .before .if2 .left)) (c .before .before .byte-at3 .ensures) (c .before .is-count .ensures) (c .if3 .taken) }
+returns-4 c = record { answer = no-font (expansion (c .before .before .before .before .before .before .line .inv .2) (c .before .before .before .before .before .byte-at2 .ensures) (c .before .before .before .before .is-expansion .ensures) (c .before .before .before .if2 .left)) (c .before .before .byte-at3 .ensures) (c .before .is-count .ensures) (c .if3 .taken) }
 
 returns-5 : tie.Need-returns-5 Inv-block μ-block Inv-line μ-line Inv-content μ-content
-returns-5 c = record { answer = no-item (c .before .before .before .before .block .inv .1) (c .before .before .before .token-at .ensures) (c .before .found2 .given .1) }
+returns-5 c = record { answer = no-item (c .before .before .before .before .before .before .block .inv .2) (c .before .before .before .before .before .byte-at4 .ensures) (c .before .before .before .before .kind-of .ensures) (c .before .before .before .item-at .ensures) (c .before .found2 .given .1) }
 
 returns-6 : tie.Need-returns-6 Inv-block μ-block Inv-line μ-line Inv-content μ-content
-returns-6 c = record { answer = no-end (at-close (c .before .before .before .before .before .before)) (c .before .before .byte-at5 .ensures) (c .before .if5 .taken) (c .if6 .left) }
+returns-6 c = record { answer = no-end (closed (c .before .before .before .before .before .before .before .before .before .before .before .block .inv .2) (c .before .before .before .before .before .before .before .before .before .before .byte-at4 .ensures) (c .before .before .before .before .before .before .before .before .before .kind-of .ensures) (c .before .before .before .before .before .before .before .before .item-at .ensures) (c .before .before .before .before .before .before .enum-told .given .1)) (c .before .before .byte-at6 .ensures) (c .before .if5 .taken) (c .if6 .left) }
 
 returns-7 : tie.Need-returns-7 Inv-block μ-block Inv-line μ-line Inv-content μ-content
-returns-7 c = record { answer = fifth-line (at-close (c .before .before .before .before .before .before)) (at-line (at-close (c .before .before .before .before .before .before)) (c .before .before .before .before .before .byte-at4 .ensures) (c .before .before .before .before .is-expansion2 .ensures) (c .before .before .before .if4 .taken) (c .before .before .byte-at5 .ensures) (c .before .if5 .left)) (c .if7 .taken) }
+returns-7 c = record { answer = fifth-line (closed (c .before .before .before .before .before .before .before .before .before .before .before .block .inv .2) (c .before .before .before .before .before .before .before .before .before .before .byte-at4 .ensures) (c .before .before .before .before .before .before .before .before .before .kind-of .ensures) (c .before .before .before .before .before .before .before .before .item-at .ensures) (c .before .before .before .before .before .before .enum-told .given .1)) (at-line (closed (c .before .before .before .before .before .before .before .before .before .before .before .block .inv .2) (c .before .before .before .before .before .before .before .before .before .before .byte-at4 .ensures) (c .before .before .before .before .before .before .before .before .before .kind-of .ensures) (c .before .before .before .before .before .before .before .before .item-at .ensures) (c .before .before .before .before .before .before .enum-told .given .1)) (c .before .before .before .before .before .byte-at5 .ensures) (c .before .before .before .before .is-expansion2 .ensures) (c .before .before .before .if4 .taken) (c .before .before .byte-at6 .ensures) (c .before .if5 .left)) (c .if7 .taken) }
 
 pub read-spec : {M : Type 1} → statement M
 read-spec =
@@ -164,17 +174,20 @@ read-spec =
     is-count-requires
     add-at-2
     block-holds
-    token-at-requires
+    byte-at-requires-4
+    kind-of-requires
+    item-at-requires
     enum-known-found
+    passed-requires
     block-less
     block-again
     enum-told
     enum-known-found-2
-    byte-at-requires-4
+    byte-at-requires-5
     is-expansion-requires-2
     line-less
     line-again
-    byte-at-requires-5
+    byte-at-requires-6
     add-at-3
     returns-2
     add-seen

@@ -4,9 +4,6 @@ use Rattle.content.specs.Content.{tested}
 use Rattle.content.proofs.test.test.Statement.{statement}
 use Rattle.content.proofs.test.test.Tie as tie
 
-is-content-requires : tie.Need-is-content-requires
-is-content-requires c κs = search needs
-
 returns : tie.Need-returns
 unfolding tested
 returns c = record { answer = rw (← c .before .is-content .ensures, c .if1 .taken) }
@@ -16,4 +13,4 @@ unfolding tested
 returns-2 c = record { answer = rw (← c .before .is-content .ensures, c .if1 .left) }
 
 pub test-spec : {M : Type 1} → statement M
-test-spec = tie.close (tie.spec is-content-requires returns returns-2)
+test-spec = tie.close (tie.spec (λ c κs. search needs) returns returns-2)

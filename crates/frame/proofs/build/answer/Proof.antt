@@ -1,161 +1,102 @@
--- `frame::build::answer` meets its contract. The three bytes of the head, what `lay` leaves behind them, and the check byte stored last are the frame laid over the buffer's front; a refusal comes before the first store.
-use Prim.Native.Nat.{ℕ, _+_, _-_, _/_, _%_, _≤_}
+-- `frame::build::answer` meets its contract. Its tests are `wrap`'s own; behind them `lay` leaves the data from place 3 on, so that the frame that `wrap` makes of it is the rule's.
+use Prim.Native.Nat.{ℕ, _+_, _-_, _≤_}
 use mathlib.Core.Bool.{Bool}
-use mathlib.Core.List.{List, [], _∷_}
+use mathlib.Core.List.{List, _++_, append-assoc}
 use mathlib.Core.Path.{_≡_, refl, sym, _∙_, ap, ap₂}
 use native.Mathlib.Omega.{arith}
 use borrow.Author.Needs.{needs}
-use borrow.Author.Tests.{le-ltb}
 use borrow.Rule.Slice.PartMut.{midOf, putMid}
-use lib.ListN.{length, set, take, drop, length-set}
-use lib.Seq.{length-take-le, take-at}
+use lib.ListN.{length, take, drop, length-append, take-append-drop}
+use lib.Seq.{length-take-le, take-append-seam, drop-at}
 use Rattle.frame.specs.Ground.{over}
-use Rattle.frame.specs.Wire.{check}
-use Rattle.frame.specs.Build.{answered, frame, head, body, Lays, Answers}
-use Rattle.frame.specs.declared.build.Built.the-variants.{Written}
-use Rattle.frame.proofs.Laws.{tests, over-next, laid-behind}
+use Rattle.frame.specs.Wire.{head-size, around, longest-data}
+use Rattle.frame.specs.Build.{answered, answer-tests, bytes-of, frame, Lays, Wraps, Answers}
+use Rattle.frame.specs.declared.build.Built.{Built}
+use Rattle.frame.specs.declared.build.Built.the-variants.{Refused}
+use Rattle.frame.proofs.Ground.{tests, length-over, over-under, laid-behind}
+use Rattle.frame.proofs.Told.{frame-length, told, answered-fits}
 use Rattle.frame.proofs.build.answer.Statement.{statement}
 use Rattle.frame.proofs.build.answer.Tie as tie
 
--- The buffer when the three bytes of the head are stored, and when what was lent behind them is back.
-abbrev opened : ℕ → ℕ → List ℕ → List ℕ
-opened identifier n before = set (set (set before 0 identifier) 1 (n / 256 % 256)) 2 (n % 256)
-
+-- The buffer when what was lent behind its first three bytes is back.
 abbrev back : List ℕ → List ℕ → List ℕ
 back xs last = putMid 3 (length xs - 3) xs last
 
-headed : (identifier n : ℕ) (before : List ℕ) → n ≤ 550 → 3 ≤ length before → opened identifier n before ≡ over (head identifier n) before
-headed identifier n before h g =
-    ap (λ (l : List ℕ). set (set l 1 (n / 256 % 256)) 2 (n % 256)) (over-next [] before 0 identifier refl (omega arith))
-    ∙ ap (λ (l : List ℕ). set l 2 (n % 256)) (over-next (identifier ∷ []) before 1 (n / 256 % 256) refl (omega arith))
-    ∙ over-next (identifier ∷ n / 256 % 256 ∷ []) before 2 (n % 256) refl (omega arith)
-    ∙ ap (λ (k : ℕ). over (identifier ∷ k ∷ n % 256 ∷ []) before) (small n h)
-  where
-    small : (n : ℕ) → n ≤ 550 → n / 256 % 256 ≡ n / 256
-    small n h = omega arith
+-- The rule's answer, and the bytes that it tells of.
+answers : (identifier : ℕ) (before d : List ℕ) (r : Built) (after : List ℕ) → r ≡ answered (length before) (length d) → after ≡ over (bytes-of r identifier d) before
+    → Answers before identifier d r after
+unfolding answered
+answers identifier before d r after e q =
+    record { answer = e; told = told (answer-tests (length before) (length d)) (length d) identifier d r e (λ a. refl); buffer = q }
 
-written : (identifier : ℕ) (before d last : List ℕ) (r : Bool) (c : ℕ) → length d ≤ 550 → length d + 4 ≤ length before
-    → Lays (midOf 3 (length (opened identifier (length d) before) - 3) (opened identifier (length d) before)) d r last
-    → c ≡ check (take (length d + 3) (back (opened identifier (length d) before) last))
-    → Answers before identifier d (Written (length d + 4)) (set (back (opened identifier (length d) before) last) (length d + 3) c)
-unfolding answered frame
-written identifier before d last r c h g p e =
-    let b : back (opened identifier (length d) before) last ≡ over (body identifier d) before =
-    laid-behind 3 (head identifier (length d)) d before last r (opened identifier (length d) before) refl (omega arith) (headed identifier (length d) before h (omega arith)) p in
-    let n : length (body identifier d) ≡ length d + 3 = omega arith in
-    let q : c ≡ check (body identifier d) =
-    e ∙ ap (λ (l : List ℕ). check (take (length d + 3) l)) b ∙ ap check (take-at (body identifier d) (drop (length (body identifier d)) before) (length d + 3) n) in
-    record {
-      answer = rw (le-ltb (length before) (length d + 4) g, le-ltb 550 (length d) h);
-      buffer =
-          ap₂ (λ (l : List ℕ) (k : ℕ). set l (length d + 3) k) b q
-          ∙ over-next (body identifier d) before (length d + 3) (check (body identifier d)) n (omega arith);
-    }
+module _ (identifier : ℕ) (before d last : List ℕ) (laid : Bool) (h : length d ≤ longest-data) (g : length d + around ≤ length before)
+    (p : Lays (midOf 3 (length before - 3) before) d laid last) where
+  three : length (take 3 before) ≡ 3
+  three = length-take-le 3 before (omega arith)
 
--- The buffer when what was lent is back has the length it came with.
-abbrev held : tie.After-out → List ℕ
-held c =
-    let a = c .before .before .before .before .before .before .before .args in
-    back (opened (a .identifier) (length (a .bytes .now)) (a .out .now)) (c .before .lay .last .0)
+  behind : back before last ≡ over (take 3 before ++ d) before
+  behind =
+      laid-behind 3 (take 3 before) d before last laid before three (omega arith)
+      (sym (ap (λ (k : ℕ). take 3 before ++ drop k before) three ∙ take-append-drop 3 before)) p
 
-kept : (c : tie.After-out) → length (held c) ≡ length (c .before .before .before .before .before .before .before .args .out .now)
-kept c = c .out .given .1 ∙ simp length-set
+  longer : length (take 3 before ++ d) ≡ length d + head-size
+  longer = length-append (take 3 before) d ∙ ap (λ (k : ℕ). k + length d) three ∙ omega arith
 
-add-if1 : tie.Need-add-if1
-add-if1 c = search needs
+  same-room : length (back before last) ≡ length before
+  same-room = ap length behind ∙ length-over (take 3 before ++ d) before (omega (arith, longer))
+
+  same-data : take (length d) (drop 3 (back before last)) ≡ d
+  same-data =
+      let rest : List ℕ = drop (length (take 3 before ++ d)) before in
+      ap (λ (l : List ℕ). take (length d) (drop 3 l)) (behind ∙ append-assoc (take 3 before) d rest)
+      ∙ ap (take (length d)) (drop-at (take 3 before) (d ++ rest) 3 three)
+      ∙ take-append-seam d rest
+
+  same-rest : over (frame identifier d) (back before last) ≡ over (frame identifier d) before
+  same-rest = ap (over (frame identifier d)) behind ∙ over-under (frame identifier d) (take 3 before ++ d) before (omega (arith, longer, frame-length identifier d))
+
+  written : (r : Built) (after : List ℕ) → Wraps (back before last) identifier (length d) r after → Answers before identifier d r after
+  written r after w =
+      let fits = answered-fits (length before) (length d) g h in
+      let e : r ≡ answered (length before) (length d) = w .answer ∙ ap (λ (k : ℕ). answered k (length d)) same-room in
+      answers identifier before d r after e
+      (w .buffer
+      ∙ ap₂ (λ (x : Built) (l : List ℕ). over (bytes-of x identifier l) (back before last)) (e ∙ fits) same-data
+      ∙ same-rest
+      ∙ ap (λ (x : Built). over (bytes-of x identifier d) before) (sym (e ∙ fits)))
 
 returns : tie.Need-returns
 unfolding answered
-returns c = search tests
+returns c =
+    let a = c .before .before .before .args in
+    answers (a .identifier) (a .out .now) (a .bytes .now) (Refused 2) (a .out .now) (search tests) refl
 
 returns-2 : tie.Need-returns-2
 unfolding answered
-returns-2 c = search tests
-
-slice-write-out : tie.Need-slice-write-out
-slice-write-out c = search needs
-
-cast-out : tie.Need-cast-out
-cast-out c = search needs
-
-slice-write-out-2 : tie.Need-slice-write-out-2
-slice-write-out-2 c = simp length-set (omega arith)
-
-cast-out-2 : tie.Need-cast-out-2
-cast-out-2 c = search needs
-
-slice-write-out-3 : tie.Need-slice-write-out-3
-slice-write-out-3 c = simp length-set (omega arith)
-
-sub-lay : tie.Need-sub-lay
-sub-lay c = simp length-set (omega arith)
-
-part-lay-start : tie.Need-part-lay-start
-part-lay-start c = simp length-set (omega arith)
-
-part-lay-end : tie.Need-part-lay-end
-part-lay-end c = search needs
-
-lay-requires : tie.Need-lay-requires
-lay-requires c κs = search needs
-
-add-check : tie.Need-add-check
-add-check c = search needs
-
-slice-reshare-prefix-check : tie.Need-slice-reshare-prefix-check
-slice-reshare-prefix-check c = omega (arith, kept (c .before))
-
-slice-aggregate-check : tie.Need-slice-aggregate-check
-slice-aggregate-check c =
-    let a = c .before .before .before .before .before .before .before .before .before .args in
-    sym (length-take-le (length (a .bytes .now) + 3) (held (c .before .before)) (omega (arith, kept (c .before .before))))
-
-check-requires : tie.Need-check-requires
-check-requires c κs = search needs
-
-add-out : tie.Need-add-out
-add-out c = search needs
-
-slice-write-out-4 : tie.Need-slice-write-out-4
-slice-write-out-4 c = omega (arith, kept (c .before .before .before))
-
-add-t6 : tie.Need-add-t6
-add-t6 c = search needs
-
-same-length : tie.Need-same-length
-same-length c =
-    let a = c .before .before .before .before .before .before .before .before .before .before .args in
-    length-set (held (c .before .before .before)) (length (a .bytes .now) + 3) (c .check .result) ∙ kept (c .before .before .before)
+returns-2 c =
+    let a = c .before .before .before .before .args in
+    answers (a .identifier) (a .out .now) (a .bytes .now) (Refused 4) (a .out .now) (search tests) refl
 
 returns-3 : tie.Need-returns-3
 returns-3 c =
-    let a = c .before .before .before .before .before .before .before .before .before .before .args in
-    let laid = c .before .before .before .before .lay in
-    written (a .identifier) (a .out .now) (a .bytes .now) (laid .last .0) (laid .result) (c .check .result)
-    (c .before .before .before .before .before .before .if2 .left) (c .before .before .before .before .before .before .before .if1 .left) (laid .ensures) (c .check .ensures)
+    let tests = c .before .before .before .before .before .before .before .before in
+    let a = tests .before .before .before .before .args in
+    let lay = c .before .before .before .before .before .before .lay in
+    let wrap = c .before .before .wrap in
+    written (a .identifier) (a .out .now) (a .bytes .now) (lay .last .0) (lay .result) (tests .if2 .left) (tests .before .if1 .left) (lay .ensures)
+    (wrap .result) (wrap .last .0) (wrap .ensures)
 
 pub answer-spec : {M : Type 1} → statement M
 answer-spec =
     tie.close
     (tie.spec
-    add-if1
+    (λ c. search needs)
     returns
     returns-2
-    slice-write-out
-    cast-out
-    slice-write-out-2
-    cast-out-2
-    slice-write-out-3
-    sub-lay
-    part-lay-start
-    part-lay-end
-    lay-requires
-    add-check
-    slice-reshare-prefix-check
-    slice-aggregate-check
-    check-requires
-    add-out
-    slice-write-out-4
-    add-t6
-    same-length
+    (λ c. search needs)
+    (λ c. search needs)
+    (λ c. search needs)
+    (λ c κs. search needs)
+    (λ c κs. search needs)
+    (λ c. search needs)
     returns-3)

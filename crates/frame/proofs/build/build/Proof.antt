@@ -4,42 +4,46 @@ use mathlib.Core.Bool.{true, false}
 use mathlib.Core.List.{List}
 use mathlib.Core.Path.{_≡_, refl, sym, _∙_, ap}
 use borrow.Author.Needs.{needs}
-use borrow.Author.Tests.{not-true, not-false, le-ltb}
+use borrow.Author.Tests.{not-true, not-false, le-leb}
 use lib.ListN.{length}
-use Rattle.frame.specs.Wire.{listed, size-of}
-use Rattle.frame.specs.Build.{built, answered, Answers, Builds}
+use Rattle.frame.specs.Ground.{over}
+use Rattle.frame.specs.Wire.{listed, size-of, around, longest-data}
+use Rattle.frame.specs.Build.{built, answered, build-tests, bytes-of, Answers, Builds}
 use Rattle.frame.specs.declared.build.Built.{Built}
-use Rattle.frame.specs.declared.build.Built.the-variants.{Unknown}
-use Rattle.frame.proofs.Laws.{tests}
+use Rattle.frame.specs.declared.build.Built.the-variants.{Refused}
+use Rattle.frame.proofs.Ground.{tests}
+use Rattle.frame.proofs.Told.{told}
 use Rattle.frame.proofs.build.build.Statement.{statement}
 use Rattle.frame.proofs.build.build.Tie as tie
 
-unknown : (before : List ℕ) (identifier : ℕ) (d : List ℕ) → length d + 4 ≤ length before → length d ≤ 550 → listed (size-of identifier) ≡ false
-    → Builds before identifier d Unknown before
+-- The rule's answer, and the bytes that it tells of.
+builds : (before : List ℕ) (identifier : ℕ) (d : List ℕ) (r : Built) (after : List ℕ) → r ≡ built (length before) identifier (length d) → after ≡ over (bytes-of r identifier d) before
+    → Builds before identifier d r after
 unfolding built
-unknown before identifier d h g e = record { answer = rw (le-ltb (length before) (length d + 4) h, le-ltb 550 (length d) g, e); buffer = refl }
+builds before identifier d r after e q =
+    record { answer = e; told = told (build-tests (length before) identifier (length d)) (length d) identifier d r e (λ a. refl); buffer = q }
+
+unknown : (before : List ℕ) (identifier : ℕ) (d : List ℕ) → length d + around ≤ length before → length d ≤ longest-data → listed (size-of identifier) ≡ false
+    → Builds before identifier d (Refused 6) before
+unfolding built
+unknown before identifier d h g e = builds before identifier d (Refused 6) before (rw (le-leb (length d + around) (length before) h, le-leb (length d) longest-data g, e)) refl
 
 known : (before : List ℕ) (identifier : ℕ) (d : List ℕ) (r : Built) (after : List ℕ) → listed (size-of identifier) ≡ true
     → Answers before identifier d r after → Builds before identifier d r after
 unfolding built answered
-known before identifier d r after e p = record { answer = rw e (p .answer); buffer = p .buffer }
-
-add-if1 : tie.Need-add-if1
-add-if1 c = search needs
+known before identifier d r after e p = builds before identifier d r after (rw e (p .answer)) (p .buffer)
 
 returns : tie.Need-returns
 unfolding built
-returns c = search tests
+returns c =
+    let a = c .before .before .before .args in
+    builds (a .out .now) (a .identifier) (a .bytes .now) (Refused 2) (a .out .now) (search tests) refl
 
 returns-2 : tie.Need-returns-2
 unfolding built
-returns-2 c = search tests
-
-size-of-requires : tie.Need-size-of-requires
-size-of-requires c κs = search needs
-
-listed-requires : tie.Need-listed-requires
-listed-requires c κs = search needs
+returns-2 c =
+    let a = c .before .before .before .before .args in
+    builds (a .out .now) (a .identifier) (a .bytes .now) (Refused 4) (a .out .now) (search tests) refl
 
 returns-3 : tie.Need-returns-3
 returns-3 c =
@@ -48,12 +52,6 @@ returns-3 c =
     unknown (a .out .now) (a .identifier) (a .bytes .now)
     (c .before .before .before .before .if1 .left) (c .before .before .before .if2 .left)
     (ap listed (sym (c .before .before .size-of .ensures)) ∙ sym (k .ensures) ∙ not-true (k .result) (c .if3 .taken))
-
-answer-requires : tie.Need-answer-requires
-answer-requires c κs = search needs
-
-same-length : tie.Need-same-length
-same-length c = search needs
 
 returns-4 : tie.Need-returns-4
 returns-4 c =
@@ -68,12 +66,12 @@ pub build-spec : {M : Type 1} → statement M
 build-spec =
     tie.close
     (tie.spec
-    add-if1
+    (λ c. search needs)
     returns
     returns-2
-    size-of-requires
-    listed-requires
+    (λ c κs. search needs)
+    (λ c κs. search needs)
     returns-3
-    answer-requires
-    same-length
+    (λ c κs. search needs)
+    (λ c. search needs)
     returns-4)

@@ -5,26 +5,11 @@ use Rattle.frame.specs.Receive.{judged}
 use Rattle.frame.proofs.receive.judge.Statement.{statement}
 use Rattle.frame.proofs.receive.judge.Tie as tie
 
-size-of-requires : tie.Need-size-of-requires
-size-of-requires c κs = search needs
-
-listed-requires : tie.Need-listed-requires
-listed-requires c κs = search needs
-
-add-t6 : tie.Need-add-t6
-add-t6 c = search needs
-
 returns : tie.Need-returns
 unfolding judged
 returns c =
     let k = c .before .listed in
     rw (← c .before .before .size-of .ensures, ← k .ensures, not-true (k .result) (c .if1 .taken))
-
-fits-requires : tie.Need-fits-requires
-fits-requires c κs = search needs
-
-add-t7 : tie.Need-add-t7
-add-t7 c = search needs
 
 returns-2 : tie.Need-returns-2
 unfolding judged
@@ -32,9 +17,6 @@ returns-2 c =
     let k = c .before .before .before .listed in
     let f = c .before .fits2 in
     rw (← c .before .before .before .before .size-of .ensures, ← k .ensures, ← f .ensures, not-false (k .result) (c .before .before .if1 .left), not-true (f .result) (c .if2 .taken))
-
-add-t8 : tie.Need-add-t8
-add-t8 c = search needs
 
 returns-3 : tie.Need-returns-3
 unfolding judged
@@ -47,12 +29,12 @@ pub judge-spec : {M : Type 1} → statement M
 judge-spec =
     tie.close
     (tie.spec
-    size-of-requires
-    listed-requires
-    add-t6
+    (λ c κs. search needs)
+    (λ c κs. search needs)
+    (λ c. search needs)
     returns
-    fits-requires
-    add-t7
+    (λ c κs. search needs)
+    (λ c. search needs)
     returns-2
-    add-t8
+    (λ c. search needs)
     returns-3)

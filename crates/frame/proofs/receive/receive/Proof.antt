@@ -1,7 +1,7 @@
 -- `frame::receive::receive` meets its contract. The tests are those of the rule in its order, and what the two callees ensure is the rest of it.
 use borrow.Author.Needs.{needs}
 use Rattle.frame.specs.Receive.{received}
-use Rattle.frame.proofs.Laws.{tests}
+use Rattle.frame.proofs.Ground.{tests}
 use Rattle.frame.proofs.receive.receive.Statement.{statement}
 use Rattle.frame.proofs.receive.receive.Tie as tie
 
@@ -9,22 +9,13 @@ returns : tie.Need-returns
 unfolding received
 returns c = search tests
 
-shared-slice-read-first : tie.Need-shared-slice-read-first
-shared-slice-read-first c = search needs
-
 returns-2 : tie.Need-returns-2
 unfolding received
 returns-2 c = search tests
 
-receive-update-requires : tie.Need-receive-update-requires
-receive-update-requires c κs = search needs
-
 returns-3 : tie.Need-returns-3
 unfolding received
 returns-3 c = record { answer = rw (← c .receive-update .ensures) (search tests) }
-
-receive-frame-requires : tie.Need-receive-frame-requires
-receive-frame-requires c κs = search needs
 
 returns-4 : tie.Need-returns-4
 unfolding received
@@ -35,9 +26,9 @@ receive-spec =
     tie.close
     (tie.spec
     returns
-    shared-slice-read-first
+    (λ c. search needs)
     returns-2
-    receive-update-requires
+    (λ c κs. search needs)
     returns-3
-    receive-frame-requires
+    (λ c κs. search needs)
     returns-4)

@@ -7,38 +7,30 @@ use native.Mathlib.Omega.{arith}
 use borrow.Author.Needs.{needs}
 use borrow.Author.Tests.{lt-ltb, le-ltb}
 use lib.ListN.{length}
+use Rattle.frame.specs.Wire.{longest-update, update-marks}
 use Rattle.frame.specs.Receive.{updated, text-space}
 use Rattle.frame.specs.declared.receive.Received.the-variants.{Partial, Refused, Update}
-use Rattle.frame.proofs.Laws.{text-length}
+use Rattle.frame.proofs.Ground.{text-length}
 use Rattle.frame.proofs.receive.receive_update.Statement.{statement}
 use Rattle.frame.proofs.receive.receive_update.Tie as tie
 
-closed : (s : List ℕ) (n : ℕ) → n < 1023 → n + 1 < length s → Update n (n + 2) ≡ updated s n
+closed : (s : List ℕ) (n : ℕ) → n < (longest-update + 1) → n + 1 < length s → Update n (n + update-marks) ≡ updated s n
 unfolding updated
 closed s n h g = rw (lt-ltb n (length (text-space s)) (omega (arith, text-length s)))
 
-not-yet : (s : List ℕ) (n : ℕ) → length (text-space s) ≤ n → length s < 1024 → Partial ≡ updated s n
+not-yet : (s : List ℕ) (n : ℕ) → length (text-space s) ≤ n → length s < (longest-update + update-marks) → Partial ≡ updated s n
 unfolding updated
-not-yet s n h g = rw (le-ltb n (length (text-space s)) h, lt-ltb (length s) 1024 g)
+not-yet s n h g = rw (le-ltb n (length (text-space s)) h, lt-ltb (length s) (longest-update + update-marks) g)
 
-never : (s : List ℕ) (n : ℕ) → length (text-space s) ≤ n → 1024 ≤ length s → Refused 4 (length s) ≡ updated s n
+never : (s : List ℕ) (n : ℕ) → length (text-space s) ≤ n → (longest-update + update-marks) ≤ length s → Refused 4 (length s) ≡ updated s n
 unfolding updated
-never s n h g = rw (le-ltb n (length (text-space s)) h, le-ltb (length s) 1024 g)
+never s n h g = rw (le-ltb n (length (text-space s)) h, le-ltb (length s) (longest-update + update-marks) g)
 
 -- By either way to the last test, no 03h was found.
 not-closed : (c : tie.Joined1) → length (text-space (c .before .before .before .args .s .now)) ≤ c .before .update-size .result
 not-closed c =
     let t = text-length (c .before .before .before .args .s .now) in
     ⊎-elim (λ w. omega arith) (λ w. omega arith) (c .if1 .came)
-
-update-size-requires : tie.Need-update-size-requires
-update-size-requires c κs = search needs
-
-add-if2 : tie.Need-add-if2
-add-if2 c = search needs
-
-add-t7 : tie.Need-add-t7
-add-t7 c = search needs
 
 returns : tie.Need-returns
 returns c =
@@ -60,4 +52,4 @@ returns-3 c =
 
 pub receive-update-spec : {M : Type 1} → statement M
 receive-update-spec =
-    tie.close (tie.spec update-size-requires add-if2 add-t7 returns returns-2 returns-3)
+    tie.close (tie.spec (λ c κs. search needs) (λ c. search needs) (λ c. search needs) returns returns-2 returns-3)

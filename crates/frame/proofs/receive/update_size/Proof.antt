@@ -4,21 +4,21 @@ use mathlib.Core.List.{List}
 use mathlib.Core.Path.{_≡_, _∙_}
 use native.Mathlib.Omega.{arith}
 use lib.ListN.{length, drop, getD}
-use Rattle.frame.specs.Wire.{update-closes}
+use Rattle.frame.specs.Wire.{update-closes, longest-update}
 use Rattle.frame.specs.Receive.{run, text-space}
-use Rattle.frame.proofs.Laws.{run-here, run-past, run-end, text-length, text-at}
+use Rattle.frame.proofs.Ground.{run-here, run-past, run-end, text-length, text-at}
 use Rattle.frame.proofs.receive.update_size.Statement.{statement}
 use Rattle.frame.proofs.receive.update_size.Tie as tie
 
 -- n bytes are passed: what is left gives the rest.
 pub record Passed (s : List ℕ) (n : ℕ) : Type 0 where
-  pub inside : n ≤ 1023
+  pub inside : n ≤ (longest-update + 1)
   pub same : run update-closes (text-space s) ≡ run update-closes (drop n (text-space s)) + n
 
 passed-none : (s : List ℕ) → Passed s 0
 passed-none s = record { inside = omega arith; same = omega arith }
 
-passed-more : (s : List ℕ) (n : ℕ) → n < 1023 → n + 1 < length s → (getD s (n + 1) 0 ≡ update-closes → ⊥) → Passed s n → Passed s (n + 1)
+passed-more : (s : List ℕ) (n : ℕ) → n < (longest-update + 1) → n + 1 < length s → (getD s (n + 1) 0 ≡ update-closes → ⊥) → Passed s n → Passed s (n + 1)
 passed-more s n h g e p =
     record {
       inside = omega arith;
@@ -31,17 +31,17 @@ stopped s n e p = omega (arith, p .same)
 at-end : (s : List ℕ) (n : ℕ) → length s ≤ n + 1 → Passed s n → n ≡ run update-closes (text-space s)
 at-end s n h p = stopped s n (run-end update-closes (text-space s) n (omega (arith, text-length s))) p
 
-at-mark : (s : List ℕ) (n : ℕ) → n < 1023 → n + 1 < length s → getD s (n + 1) 0 ≡ update-closes → Passed s n → n ≡ run update-closes (text-space s)
+at-mark : (s : List ℕ) (n : ℕ) → n < (longest-update + 1) → n + 1 < length s → getD s (n + 1) 0 ≡ update-closes → Passed s n → n ≡ run update-closes (text-space s)
 at-mark s n h g e p = stopped s n (run-here update-closes (text-space s) n (omega (arith, text-length s)) (text-at s n h ∙ e)) p
 
-at-bound : (s : List ℕ) (n : ℕ) → 1023 ≤ n → Passed s n → n ≡ run update-closes (text-space s)
+at-bound : (s : List ℕ) (n : ℕ) → (longest-update + 1) ≤ n → Passed s n → n ≡ run update-closes (text-space s)
 at-bound s n h p = stopped s n (run-end update-closes (text-space s) n (omega (arith, text-length s))) p
 
 abbrev Inv-loop : tie.InvT-loop
 Inv-loop s n₀ n = Passed s n
 
 abbrev μ-loop : tie.MeasureT-loop
-μ-loop s n₀ n = 1023 - n
+μ-loop s n₀ n = (longest-update + 1) - n
 
 loop-holds : tie.Need-loop-holds Inv-loop μ-loop
 loop-holds c = passed-none (c .args .s .now)

@@ -1,6 +1,6 @@
 -- `frame::wire::size_of` meets its contract. At each return the tests that led there are the values of the tests by which the rule goes down its table.
 use Rattle.frame.specs.Wire.{size-of}
-use Rattle.frame.proofs.Laws.{tests}
+use Rattle.frame.proofs.Ground.{tests}
 use Rattle.frame.proofs.wire.size_of.Statement.{statement}
 use Rattle.frame.proofs.wire.size_of.Tie as tie
 

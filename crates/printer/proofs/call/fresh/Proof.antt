@@ -1,51 +1,55 @@
--- `printer::call::fresh` meets its contract: the type and then the clock are tested as in the rule, and a refusal gives the first printer.
+-- `printer::call::fresh` meets its contract: at each return the tests that led there give the number and the printer.
+use mathlib.Core.Bool.{true}
+use mathlib.Core.Path.{_≡_, refl, sym, _∙_}
 use borrow.Author.Needs.{needs}
-use borrow.Author.Tests.{le-leb, lt-leb, not-true, not-false}
-use Rattle.printer.specs.Call.{fresh}
+use borrow.Author.Tests.{eq-eqb, ne-eqb, not-true, not-false}
+use lib.Dec.{eqb}
+use lib.ListN.{length}
+use Rattle.frame.specs.Ground.{within}
+use Rattle.printer.specs.State.{state-size}
 use Rattle.printer.proofs.call.fresh.Statement.{statement}
 use Rattle.printer.proofs.call.fresh.Tie as tie
 
-first-printer-requires : tie.Need-first-printer-requires
-first-printer-requires c κs = search needs
+-- What each test that was passed tells.
+size : (c : tie.Else1) → eqb (length (c .before .before .args .state .now)) state-size ≡ true
+size c = eq-eqb (length (c .before .before .args .state .now)) state-size (c .if1 .left)
+
+model : (c : tie.Else2) → within 1 4 (c .before .before .before .before .args .model) ≡ true
+model c = sym (c .before .within .ensures) ∙ not-false _ (c .if2 .left)
 
 returns : tie.Need-returns
-unfolding fresh
-returns c = record { answer = rw (lt-leb 1 _ (c .before .if1 .taken), c .first-printer .ensures) }
-
-first-printer-requires-2 : tie.Need-first-printer-requires-2
-first-printer-requires-2 c κs = search needs
+returns c = let e = ne-eqb (length (c .before .before .args .state .now)) state-size (c .if1 .taken) in record { number = rw e refl; state = rw e refl }
 
 returns-2 : tie.Need-returns-2
-unfolding fresh
-returns-2 c = record { answer = rw (le-leb 1 _ (c .before .before .if1 .left), lt-leb _ 4 (c .before .if2 .taken), c .first-printer2 .ensures) }
-
-is-real-requires : tie.Need-is-real-requires
-is-real-requires c κs = search needs
-
-first-printer-requires-3 : tie.Need-first-printer-requires-3
-first-printer-requires-3 c κs = search needs
+returns-2 c =
+    let kind = sym (c .before .before .before .before .before .within .ensures) ∙ not-true _ (c .before .before .before .before .if2 .taken) in
+    record { number = rw (size (c .before .before .before .before .before .before), kind) refl; state = rw (size (c .before .before .before .before .before .before), kind) (c .before .before .put-first .ensures) }
 
 returns-3 : tie.Need-returns-3
-unfolding fresh
-returns-3 c = record { answer = rw (le-leb 1 _ (c .before .before .before .before .if1 .left), le-leb _ 4 (c .before .before .before .if2 .left), ← c .before .before .is-real .ensures, not-true (c .before .before .is-real .result) (c .before .if3 .taken), c .first-printer3 .ensures) }
-
-fresh-printer-requires : tie.Need-fresh-printer-requires
-fresh-printer-requires c κs = search needs
+returns-3 c =
+    let kind = model (c .before .before .before .before .before .before) in
+    let real = sym (c .before .before .before .before .before .is-real .ensures) ∙ not-true _ (c .before .before .before .before .if3 .taken) in
+    record { number = rw (size (c .before .before .before .before .before .before .before .before), kind, real) refl; state = rw (size (c .before .before .before .before .before .before .before .before), kind, real) (c .before .before .put-first2 .ensures) }
 
 returns-4 : tie.Need-returns-4
-unfolding fresh
-returns-4 c = record { answer = rw (le-leb 1 _ (c .before .before .before .before .if1 .left), le-leb _ 4 (c .before .before .before .if2 .left), ← c .before .before .is-real .ensures, not-false (c .before .before .is-real .result) (c .before .if3 .left), c .fresh-printer .ensures) }
+returns-4 c =
+    let kind = model (c .before .before .before .before .before .before) in
+    let real = sym (c .before .before .before .before .before .is-real .ensures) ∙ not-false _ (c .before .before .before .before .if3 .left) in
+    record { number = rw (size (c .before .before .before .before .before .before .before .before), kind, real) refl; state = rw (size (c .before .before .before .before .before .before .before .before), kind, real) (c .before .before .put-fresh .ensures) }
 
 pub fresh-spec : {M : Type 1} → statement M
 fresh-spec =
     tie.close
     (tie.spec
-    first-printer-requires
     returns
-    first-printer-requires-2
+    (λ c κs. search needs)
+    (λ c κs. search needs)
+    (λ c. search needs)
     returns-2
-    is-real-requires
-    first-printer-requires-3
+    (λ c κs. search needs)
+    (λ c κs. search needs)
+    (λ c. search needs)
     returns-3
-    fresh-printer-requires
+    (λ c κs. search needs)
+    (λ c. search needs)
     returns-4)

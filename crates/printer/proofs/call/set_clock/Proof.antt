@@ -1,32 +1,45 @@
--- `printer::call::set_clock` meets its contract: the state and then the clock are tested as in the rule, and a refusal gives the state back.
+-- `printer::call::set_clock` meets its contract: at each return the tests that led there give the number, and the bytes stay until both are passed.
+use mathlib.Core.Path.{refl, sym, _∙_}
 use borrow.Author.Needs.{needs}
 use borrow.Author.Tests.{not-true, not-false}
-use Rattle.printer.specs.Call.{clock-set}
+use Rattle.printer.specs.Call.{set-clock}
+use Rattle.printer.proofs.Valid.{valid-size}
 use Rattle.printer.proofs.call.set_clock.Statement.{statement}
 use Rattle.printer.proofs.call.set_clock.Tie as tie
 
-valid-requires : tie.Need-valid-requires
-valid-requires c κs = search needs
-
 returns : tie.Need-returns
-unfolding clock-set
-returns c = record { answer = rw (← c .before .valid .ensures, not-true (c .before .valid .result) (c .if1 .taken)) }
-
-is-real-requires : tie.Need-is-real-requires
-is-real-requires c κs = search needs
+unfolding set-clock
+returns c =
+    let valid = sym (c .before .valid-state .ensures) ∙ not-true _ (c .if1 .taken) in
+    record { number = rw valid refl; state = rw valid refl }
 
 returns-2 : tie.Need-returns-2
-unfolding clock-set
-returns-2 c = record { answer = rw (← c .before .before .before .valid .ensures, not-false (c .before .before .before .valid .result) (c .before .before .if1 .left), ← c .before .is-real .ensures, not-true (c .before .is-real .result) (c .if2 .taken)) }
+unfolding set-clock
+returns-2 c =
+    let valid = sym (c .before .before .before .valid-state .ensures) ∙ not-false _ (c .before .before .if1 .left) in
+    let real = sym (c .before .is-real .ensures) ∙ not-true _ (c .if2 .taken) in
+    record { number = rw (valid, real) refl; state = rw (valid, real) refl }
 
-with-clock-requires : tie.Need-with-clock-requires
-with-clock-requires c κs = search needs
+put-clock-requires : tie.Need-put-clock-requires
+put-clock-requires c κs = valid-size _ (sym (c .before .before .before .before .valid-state .ensures) ∙ not-false _ (c .before .before .before .if1 .left))
 
 returns-3 : tie.Need-returns-3
-unfolding clock-set
-returns-3 c = record { answer = rw (← c .before .before .before .before .valid .ensures, not-false (c .before .before .before .before .valid .result) (c .before .before .before .if1 .left), ← c .before .before .is-real .ensures, not-false (c .before .before .is-real .result) (c .before .if2 .left), c .with-clock .ensures) }
+unfolding set-clock
+returns-3 c =
+    let valid = sym (c .before .before .before .before .before .before .before .valid-state .ensures) ∙ not-false _ (c .before .before .before .before .before .before .if1 .left) in
+    let real = sym (c .before .before .before .before .before .is-real .ensures) ∙ not-false _ (c .before .before .before .before .if2 .left) in
+    record { number = rw (valid, real) refl; state = rw (valid, real) (c .before .before .put-clock .ensures) }
 
 pub set-clock-spec : {M : Type 1} → statement M
 set-clock-spec =
     tie.close
-    (tie.spec valid-requires returns is-real-requires returns-2 with-clock-requires returns-3)
+    (tie.spec
+    (λ c κs. search needs)
+    (λ c. search needs)
+    returns
+    (λ c κs. search needs)
+    (λ c. search needs)
+    returns-2
+    put-clock-requires
+    (λ c. search needs)
+    returns-3)

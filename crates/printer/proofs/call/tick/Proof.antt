@@ -1,26 +1,45 @@
--- `printer::call::tick` meets its contract: the state is tested as in the rule, and a valid one gets the next moment.
+-- `printer::call::tick` meets its contract: a state that is not valid stays, and in any other the clock becomes the next moment.
+use mathlib.Core.Path.{refl, sym, _∙_, ap}
 use borrow.Author.Needs.{needs}
 use borrow.Author.Tests.{not-true, not-false}
-use Rattle.printer.specs.Call.{ticked}
+use Rattle.printer.specs.Call.{tick-clock}
+use Rattle.printer.specs.Clock.{tick}
+use Rattle.printer.specs.State.{bytes-of, printer-of, with-clock}
+use Rattle.printer.specs.declared.clock.Clock.{Clock}
+use Rattle.printer.proofs.Valid.{valid-size}
 use Rattle.printer.proofs.call.tick.Statement.{statement}
 use Rattle.printer.proofs.call.tick.Tie as tie
 
-valid-requires : tie.Need-valid-requires
-valid-requires c κs = search needs
-
 returns : tie.Need-returns
-unfolding ticked
-returns c = record { answer = rw (← c .before .valid .ensures, not-true (c .before .valid .result) (c .if1 .taken)) }
+unfolding tick-clock
+returns c =
+    let valid = sym (c .before .valid-state .ensures) ∙ not-true _ (c .if1 .taken) in
+    record { number = rw valid refl; state = rw valid refl }
 
-tick-requires : tie.Need-tick-requires
-tick-requires c κs = search needs
+clock-requires : tie.Need-clock-requires
+clock-requires c κs = valid-size _ (sym (c .before .before .valid-state .ensures) ∙ not-false _ (c .before .if1 .left))
 
-with-clock-requires : tie.Need-with-clock-requires
-with-clock-requires c κs = search needs
+put-clock-requires : tie.Need-put-clock-requires
+put-clock-requires c κs = valid-size _ (sym (c .before .before .before .before .before .valid-state .ensures) ∙ not-false _ (c .before .before .before .before .if1 .left))
 
 returns-2 : tie.Need-returns-2
-unfolding ticked
-returns-2 c = record { answer = rw (← c .before .before .before .before .valid .ensures, not-false (c .before .before .before .before .valid .result) (c .before .before .before .if1 .left), c .with-clock .ensures, c .before .tick .ensures) }
+unfolding tick-clock
+returns-2 c =
+    let valid = sym (c .before .before .before .before .before .before .before .before .valid-state .ensures) ∙ not-false _ (c .before .before .before .before .before .before .before .if1 .left) in
+    record {
+      number = rw valid refl;
+      state = rw valid (c .before .before .put-clock .ensures ∙ ap (λ (now : Clock). bytes-of (with-clock (printer-of (c .before .before .before .before .before .before .before .before .before .before .before .args .state .now)) now)) (c .before .before .before .tick .ensures ∙ ap tick (c .before .before .before .before .before .clock .ensures)));
+    }
 
 pub tick-spec : {M : Type 1} → statement M
-tick-spec = tie.close (tie.spec valid-requires returns tick-requires with-clock-requires returns-2)
+tick-spec =
+    tie.close
+    (tie.spec
+    (λ c κs. search needs)
+    (λ c. search needs)
+    returns
+    clock-requires
+    (λ c κs. search needs)
+    put-clock-requires
+    (λ c. search needs)
+    returns-2)

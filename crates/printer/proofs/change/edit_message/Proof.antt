@@ -1,128 +1,114 @@
--- `printer::change::edit_message` meets its contract: its tests are the rule's, in the rule's order, and in a valid state the message
--- that is edited has at most 512 bytes.
-use Prim.Native.Nat.{ℕ, _-_, _≤_}
+-- `printer::change::edit_message` meets its contract: its first two tests are the rule's, and the edit decides the other two, in the rule's order, before it changes a byte.
+use Prim.Native.Nat.{ℕ, _+_, _-_}
 use mathlib.Core.Bool.{Bool, true, false}
 use mathlib.Core.List.{List}
-use mathlib.Core.Path.{_≡_, sym, _∙_}
+use mathlib.Core.Path.{_≡_, refl, _∙_}
 use borrow.Author.Needs.{needs}
-use borrow.Author.Tests.{not-true, not-false, eq-eqb, ne-eqb}
-use lib.ListN.{length, take, drop}
-use Rattle.frame.proofs.Laws.{lent-tail}
-use Rattle.content.specs.Edit as edit
-use Rattle.printer.specs.Jet.{has-jet, has-message, message}
-use Rattle.printer.specs.State.{jet-at, with-jet, valid}
-use Rattle.printer.specs.Change.{refused, changed, jet-number, address-in, edited-jet, edit-message}
-use Rattle.printer.specs.declared.jet.Jet.{Jet}
-use Rattle.printer.specs.declared.state.Printer.{Printer}
-use Rattle.printer.proofs.Valid.{valid-at, message-short}
+use borrow.Rule.Slice.PartMut.{midOf, putMid}
+use lib.ListN.{drop}
+use Rattle.frame.specs.Ground.{unless}
+use Rattle.frame.proofs.Ground.{lent-tail}
+use Rattle.content.specs.Byte.{all-characters}
+use Rattle.content.specs.Machine.{start}
+use Rattle.content.specs.Position.{marks}
+use Rattle.content.specs.Edit.{addressed, edited, number}
+use Rattle.content.specs.declared.edit.Edited.the-variants.{Done, NoPosition, NoCharacter}
+use Rattle.printer.specs.Jet.{has-message, message, jet-size}
+use Rattle.printer.specs.State.{printer-of}
+use Rattle.printer.specs.Order.{jet-number, on-printer, jet-in, Obeys}
+use Rattle.printer.specs.Change.{address-in, edited-jet, edit-message, EditsJet}
+use Rattle.printer.proofs.Valid.{valid-size}
+use Rattle.printer.proofs.Orders.{denied, granted, here, past, end, holds, refused, obeyed}
+use Rattle.printer.proofs.Part.{Stands, part-inside, part-size, part-jet, part-short, part-kept, part-written, not-named, named, stands}
 use Rattle.printer.proofs.change.edit_message.Statement.{statement}
 use Rattle.printer.proofs.change.edit_message.Tie as tie
 
-module _ (p : Printer) (d : List ℕ) {here : Bool} (h : here ≡ has-jet (p .kind) (jet-number d)) where
-  no-jet : here ≡ false → refused 8 p ≡ edit-message p d
-  unfolding edit-message
-  no-jet f = rw (← h, f)
+module _ (m d : List ℕ) {at r : ℕ} {last : List ℕ} (jet : Stands m (jet-number d) at) (on : on-printer (printer-of m) d ≡ true)
+    (some : has-message (jet-in (printer-of m) d) ≡ true)
+    (e : EditsJet (jet-in (printer-of m) d) (address-in d) (drop 3 d) (midOf at (at + jet-size - at) m) r last) where
+  edit-obeys : Obeys (edit-message (printer-of m) d) m r (putMid at (at + jet-size - at) m last)
+  unfolding edit-message edited
+  edit-obeys =
+      go (addressed (drop 3 d) (drop (address-in d) (marks start (message (jet-in (printer-of m) d))))) (all-characters (drop 3 d)) refl refl (e .gives)
+    where
+      go : (b c : Bool) → addressed (drop 3 d) (drop (address-in d) (marks start (message (jet-in (printer-of m) d)))) ≡ b → all-characters (drop 3 d) ≡ c
+          → r ≡ number (unless b NoPosition (unless c NoCharacter Done)) → Obeys (edit-message (printer-of m) d) m r (putMid at (at + jet-size - at) m last)
+      go true true p q g =
+          rw g (obeyed (holds on (holds some (holds p (holds q end))))
+          (part-written jet (λ _. edited-jet (jet-in (printer-of m) d) (address-in d) (drop 3 d)) (e .leaves ∙ rw g)))
+      go true false p q g = rw (g, part-kept jet (e .leaves ∙ rw g)) (refused (past on (past some (past p (here q)))))
+      go false c p q g = rw (g, part-kept jet (e .leaves ∙ rw g)) (refused (past on (past some (here p))))
 
-  module _ (t : here ≡ true) {jet : Jet} (e : jet ≡ jet-at p (jet-number d)) where
-    short : valid p ≡ true → jet .length ≤ 512
-    short v = rw e (message-short true (jet-at p (jet-number d)) (valid-at p (jet-number d) v (sym h ∙ t)))
+jet : (c : tie.Else1) → let a = c .before .before .before .before .before .args in Stands (a .state .now) (jet-number (a .d .now)) (c .before .place-in .result)
+jet c = stands (c .before .place-in .ensures) (c .if1 .left) (valid-size _ (c .before .before .before .before .before .pre .0)) (c .before .before .before .before .slice-known .given)
 
-    module _ {some : Bool} (m : some ≡ has-message jet) where
-      no-message : some ≡ false → refused 11 p ≡ edit-message p d
-      unfolding edit-message
-      no-message f = rw (← h, t, ← e, ← m, f)
+tested : (c : tie.After-has-message) → let a = c .before .before .before .before .before .before .before .before .args in c .has-message .result ≡ has-message (jet-in (printer-of (a .state .now)) (a .d .now))
+tested c = rw (part-jet (jet (c .before .before .before))) at (c .has-message .ensures)
 
-      module _ (s : some ≡ true) {address number : ℕ} (a : address ≡ address-in d)
-          (n : number ≡ edit.number (edit.edited (message jet) address (take (length d - 3) (drop 3 d)))) where
-        denied : (number ≡ 0 → ⊥) → refused number p ≡ edit-message p d
-        unfolding edit-message
-        denied f = rw (← h, t, ← e, ← m, s, ← a, ← lent-tail 3 d, ← n, ne-eqb number 0 f)
-
-        done : {after : Jet} {q : Printer} → number ≡ 0 → after ≡ edited-jet jet address (take (length d - 3) (drop 3 d))
-            → q ≡ with-jet p (jet-number d) after → changed q ≡ edit-message p d
-        unfolding edit-message
-        done f w r = rw (← h, t, ← e, ← m, s, ← a, ← lent-tail 3 d, ← n, eq-eqb number 0 f, r, w)
-
-shared-slice-read-word : tie.Need-shared-slice-read-word
-shared-slice-read-word c = search needs
-
-has-jet-requires : tie.Need-has-jet-requires
-has-jet-requires c κs = search needs
+place-in-requires : tie.Need-place-in-requires
+place-in-requires c κs = (valid-size _ (c .before .before .before .pre .0), search needs)
 
 returns : tie.Need-returns
-returns c =
-    let a = c .before .before .before .before .args in
-    no-jet (a .p) (a .d .now) (c .before .has-jet .ensures) (not-true (c .before .has-jet .result) (c .if1 .taken))
+unfolding edit-message
+returns c = refused (here (not-named (c .before .place-in .ensures) (c .if1 .taken)))
 
-jet-at-requires : tie.Need-jet-at-requires
-jet-at-requires c κs = search needs
-
-has-message-requires : tie.Need-has-message-requires
-has-message-requires c κs = search needs
+part-has-message-end : tie.Need-part-has-message-end
+part-has-message-end c = part-inside (jet (c .before))
 
 returns-2 : tie.Need-returns-2
+unfolding edit-message
 returns-2 c =
-    let a = c .before .before .before .before .before .before .before .args in
-    no-message (a .p) (a .d .now) (c .before .before .before .before .has-jet .ensures) (not-false (c .before .before .before .before .has-jet .result) (c .before .before .before .if1 .left)) (c .before .before .jet-at .ensures)
-    (c .before .has-message .ensures) (not-true (c .before .has-message .result) (c .if2 .taken))
-
-shared-slice-read-word-2 : tie.Need-shared-slice-read-word-2
-shared-slice-read-word-2 c = search needs
-
-shared-slice-read-word-3 : tie.Need-shared-slice-read-word-3
-shared-slice-read-word-3 c = search needs
-
-word-requires : tie.Need-word-requires
-word-requires c κs = search needs
-
-sub-edit-jet : tie.Need-sub-edit-jet
-sub-edit-jet c = search needs
-
-part-edit-jet-start : tie.Need-part-edit-jet-start
-part-edit-jet-start c = search needs
+    let at-if1 = c .before .before .before .before in
+    let at-place-in = at-if1 .before in
+    refused (past (named (at-place-in .place-in .ensures) (at-if1 .if1 .left))
+    (here (denied (tested (c .before)) (c .if2 .taken))))
 
 part-edit-jet-end : tie.Need-part-edit-jet-end
-part-edit-jet-end c = search needs
+part-edit-jet-end c =
+    let at-if1 = c .before .before .before .before in
+    part-inside (jet at-if1)
 
 edit-jet-requires : tie.Need-edit-jet-requires
 edit-jet-requires c κs =
-    let a = c .before .before .before .before .before .before .before .before .before .before .before .args in
-    short (a .p) (a .d .now) (c .before .before .before .before .before .before .before .before .has-jet .ensures) (not-false (c .before .before .before .before .before .before .before .before .has-jet .result) (c .before .before .before .before .before .before .before .if1 .left)) (c .before .before .before .before .before .before .jet-at .ensures) (c .before .before .before .before .before .before .before .before .before .before .before .pre .1)
+    let at-if1 = c .before .before .before .before .before .before .before .before .before in
+    let s = at-if1 .before .before .before .before .before in
+    (part-size (jet at-if1), part-short (jet at-if1) (s .pre .0))
 
 returns-3 : tie.Need-returns-3
 returns-3 c =
-    let a = c .before .before .before .before .before .before .before .before .before .before .before .before .before .args in
-    denied (a .p) (a .d .now) (c .before .before .before .before .before .before .before .before .before .before .has-jet .ensures) (not-false (c .before .before .before .before .before .before .before .before .before .before .has-jet .result) (c .before .before .before .before .before .before .before .before .before .if1 .left)) (c .before .before .before .before .before .before .before .before .jet-at .ensures)
-    (c .before .before .before .before .before .before .before .has-message .ensures) (not-false (c .before .before .before .before .before .before .before .has-message .result) (c .before .before .before .before .before .before .if2 .left)) (c .before .before .before .word .ensures .0)
-    (c .before .edit-jet .ensures .0) (c .if3 .taken)
-
-with-jet-requires : tie.Need-with-jet-requires
-with-jet-requires c κs = search needs
-
-returns-4 : tie.Need-returns-4
-returns-4 c =
-    let a = c .before .before .before .before .before .before .before .before .before .before .before .before .before .before .before .args in
-    done (a .p) (a .d .now) (c .before .before .before .before .before .before .before .before .before .before .before .before .has-jet .ensures) (not-false (c .before .before .before .before .before .before .before .before .before .before .before .before .has-jet .result) (c .before .before .before .before .before .before .before .before .before .before .before .if1 .left)) (c .before .before .before .before .before .before .before .before .before .before .jet-at .ensures)
-    (c .before .before .before .before .before .before .before .before .before .has-message .ensures) (not-false (c .before .before .before .before .before .before .before .before .before .has-message .result) (c .before .before .before .before .before .before .before .before .if2 .left)) (c .before .before .before .before .before .word .ensures .0)
-    (c .before .before .before .edit-jet .ensures .0) (c .before .before .if3 .left) (c .before .before .before .edit-jet .ensures .1 (c .before .before .if3 .left)) (c .with-jet .ensures)
+    let at-word = c .before .before .before .before in
+    let at-if2 = at-word .before .before .before .before in
+    let at-has-message = at-if2 .before in
+    let at-if1 = at-has-message .before .before .before in
+    let at-place-in = at-if1 .before in
+    let s = at-place-in .before .before .before .before in
+    let j = jet at-if1 in
+    edit-obeys (s .args .state .now) (s .args .d .now) j (named (at-place-in .place-in .ensures) (at-if1 .if1 .left)) (granted (tested at-has-message) (at-if2 .if2 .left))
+    (rw (part-jet j, at-word .word .ensures .0, lent-tail) at (c .before .before .edit-jet .ensures))
 
 pub edit-message-spec : {M : Type 1} → statement M
 edit-message-spec =
     tie.close
     (tie.spec
-    shared-slice-read-word
-    has-jet-requires
+    place-in-requires
+    (λ c. search needs)
     returns
-    jet-at-requires
-    has-message-requires
+    (λ c. search needs)
+    (λ c. search needs)
+    (λ c. search needs)
+    part-has-message-end
+    (λ c κs. search needs)
+    (λ c. search needs)
     returns-2
-    shared-slice-read-word-2
-    shared-slice-read-word-3
-    word-requires
-    sub-edit-jet
-    part-edit-jet-start
+    (λ c. search needs)
+    (λ c. search needs)
     part-edit-jet-end
+    (λ c. search needs)
+    (λ c. search needs)
+    (λ c κs. search needs)
+    (λ c. search needs)
+    (λ c. search needs)
+    (λ c. search needs)
     edit-jet-requires
-    returns-3
-    with-jet-requires
-    returns-4)
+    (λ c. search needs)
+    returns-3)

@@ -1,124 +1,93 @@
--- `printer::change::set_both` meets its contract: its tests are the rule's, in the rule's order, and the part behind the parameters is
--- the rest of the data.
-use Prim.Native.Nat.{ℕ, _-_}
-use mathlib.Core.Bool.{Bool, true, false}
-use mathlib.Core.List.{List}
-use mathlib.Core.Path.{_≡_, sym, _∙_}
+-- `printer::change::set_both` meets its contract: its tests are the rule's in the rule's order, and behind them the jet's part takes message and parameters.
+use mathlib.Core.Bool.{true}
+use mathlib.Core.Path.{_≡_}
 use borrow.Author.Needs.{needs}
-use borrow.Author.Tests.{not-true, not-false}
-use lib.ListN.{length, take, drop}
-use Rattle.frame.proofs.Laws.{lent-tail}
+use lib.ListN.{drop}
+use Rattle.frame.proofs.Ground.{lent-tail}
 use Rattle.content.specs.Content.{is-content}
-use Rattle.printer.specs.Parameters.{good-parameters}
-use Rattle.printer.specs.Jet.{has-jet, with-message, with-parameters}
-use Rattle.printer.specs.State.{jet-at, with-jet}
-use Rattle.printer.specs.Change.{refused, changed, jet-number, parameters-in, set-both}
-use Rattle.printer.specs.declared.jet.Jet.{Jet}
-use Rattle.printer.specs.declared.state.Printer.{Printer}
-use Rattle.printer.proofs.Messages.{content-short}
+use Rattle.printer.specs.Jet.{Jet, good-parameters}
+use Rattle.printer.specs.Order.{jet-number}
+use Rattle.printer.specs.Change.{parameters-in, with-both, set-both}
+use Rattle.printer.proofs.Valid.{content-short}
+use Rattle.printer.proofs.Orders.{denied, granted, here, past, end, holds, refused, obeyed}
+use Rattle.printer.proofs.Part.{Stands, part-size, part-written, not-named, named, stands}
 use Rattle.printer.proofs.change.set_both.Statement.{statement}
 use Rattle.printer.proofs.change.set_both.Tie as tie
 
-module _ (p : Printer) (d : List ℕ) {here : Bool} (h : here ≡ has-jet (p .kind) (jet-number d)) where
-  no-jet : here ≡ false → refused 8 p ≡ set-both p d
-  unfolding set-both
-  no-jet f = rw (← h, f)
+jet : (c : tie.Else1) → let a = c .before .before .before .before .before .args in Stands (a .state .now) (jet-number (a .d .now)) (c .before .place-in .result)
+jet c = stands (c .before .place-in .ensures) (c .if1 .left) (c .before .before .before .before .before .pre .0) (c .before .before .before .before .slice-known .given)
 
-  module _ (t : here ≡ true) {s : List ℕ} (i : s ≡ parameters-in d) {fair : Bool} (k : fair ≡ good-parameters s) where
-    not-good : fair ≡ false → refused 9 p ≡ set-both p d
-    unfolding set-both
-    not-good f = rw (← h, t, ← i, ← k, f)
+good : (c : tie.Else2) → good-parameters (parameters-in (c .before .before .before .before .before .before .before .before .args .d .now)) ≡ true
+good c = granted (c .before .good-parameters .ensures) (c .if2 .left)
 
-    module _ (l : fair ≡ true) {good : Bool} (g : good ≡ is-content (take (length d - 38) (drop 38 d))) where
-      no-content : good ≡ false → refused 10 p ≡ set-both p d
-      unfolding set-both
-      no-content f = rw (← h, t, ← i, ← k, l, ← lent-tail 38 d, ← g, f)
-
-      done : {jet filled after : Jet} {q : Printer} → good ≡ true → jet ≡ jet-at p (jet-number d)
-          → filled ≡ with-message jet (take (length d - 38) (drop 38 d)) → after ≡ with-parameters filled s
-          → q ≡ with-jet p (jet-number d) after → changed q ≡ set-both p d
-      unfolding set-both
-      done u e m w r = rw (← h, t, ← i, ← k, l, ← lent-tail 38 d, ← g, u, r, w, m, e)
-
-shared-slice-read-t8 : tie.Need-shared-slice-read-t8
-shared-slice-read-t8 c = search needs
-
-has-jet-requires : tie.Need-has-jet-requires
-has-jet-requires c κs = search needs
+content : (c : tie.Else3) → is-content (drop 38 (c .before .before .before .before .before .before .before .before .before .before .before .args .d .now)) ≡ true
+content c = granted (rw lent-tail at (c .before .is-content .ensures)) (c .if3 .left)
 
 returns : tie.Need-returns
-returns c =
-    let a = c .before .before .before .before .args in
-    no-jet (a .p) (a .d .now) (c .before .has-jet .ensures) (not-true (c .before .has-jet .result) (c .if1 .taken))
-
-parameters-in-requires : tie.Need-parameters-in-requires
-parameters-in-requires c κs = search needs
-
-good-parameters-requires : tie.Need-good-parameters-requires
-good-parameters-requires c κs = search needs
+unfolding set-both
+returns c = refused (here (not-named (c .before .place-in .ensures) (c .if1 .taken)))
 
 returns-2 : tie.Need-returns-2
+unfolding set-both
 returns-2 c =
-    let a = c .before .before .before .before .before .before .before .args in
-    not-good (a .p) (a .d .now) (c .before .before .before .before .has-jet .ensures) (not-false (c .before .before .before .before .has-jet .result) (c .before .before .before .if1 .left)) (c .before .before .parameters-in .ensures)
-    (c .before .good-parameters .ensures) (not-true (c .before .good-parameters .result) (c .if2 .taken))
-
-sub-message : tie.Need-sub-message
-sub-message c = search needs
-
-part-message-start : tie.Need-part-message-start
-part-message-start c = search needs
-
-part-message-end : tie.Need-part-message-end
-part-message-end c = search needs
-
-is-content-requires : tie.Need-is-content-requires
-is-content-requires c κs = search needs
+    let at-place-in = c .before .before .before .before in
+    refused (past (named (at-place-in .place-in .ensures) (c .before .before .before .if1 .left))
+    (here (denied (c .before .good-parameters .ensures) (c .if2 .taken))))
 
 returns-3 : tie.Need-returns-3
+unfolding set-both
 returns-3 c =
-    let a = c .before .before .before .before .before .before .before .before .before .before .args in
-    no-content (a .p) (a .d .now) (c .before .before .before .before .before .before .before .has-jet .ensures) (not-false (c .before .before .before .before .before .before .before .has-jet .result) (c .before .before .before .before .before .before .if1 .left)) (c .before .before .before .before .before .parameters-in .ensures)
-    (c .before .before .before .before .good-parameters .ensures) (not-false (c .before .before .before .before .good-parameters .result) (c .before .before .before .if2 .left)) (c .before .is-content .ensures)
-    (not-true (c .before .is-content .result) (c .if3 .taken))
+    let at-if1 = c .before .before .before .before .before .before in
+    let at-place-in = at-if1 .before in
+    refused (past (named (at-place-in .place-in .ensures) (at-if1 .if1 .left))
+    (past (good (c .before .before .before))
+    (here (denied (rw lent-tail at (c .before .is-content .ensures)) (c .if3 .taken)))))
 
-jet-at-requires : tie.Need-jet-at-requires
-jet-at-requires c κs = search needs
-
-with-message-requires : tie.Need-with-message-requires
-with-message-requires c κs = content-short _ (sym (c .before .before .is-content .ensures) ∙ not-false (c .before .before .is-content .result) (c .before .if3 .left))
-
-with-parameters-requires : tie.Need-with-parameters-requires
-with-parameters-requires c κs = search needs
-
-with-jet-requires : tie.Need-with-jet-requires
-with-jet-requires c κs = search needs
+put-both-requires : tie.Need-put-both-requires
+put-both-requires c κs =
+    let at-if2 = c .before .before .before .before in
+    let at-if1 = at-if2 .before .before .before in (
+      part-size (jet at-if1),
+      search needs,
+      good at-if2,
+      rw lent-tail (content-short _ (content (c .before))),
+    )
 
 returns-4 : tie.Need-returns-4
+unfolding set-both
 returns-4 c =
-    let a = c .before .before .before .before .before .before .before .before .before .before .before .before .before .before .args in
-    done (a .p) (a .d .now) (c .before .before .before .before .before .before .before .before .before .before .before .has-jet .ensures) (not-false (c .before .before .before .before .before .before .before .before .before .before .before .has-jet .result) (c .before .before .before .before .before .before .before .before .before .before .if1 .left)) (c .before .before .before .before .before .before .before .before .before .parameters-in .ensures)
-    (c .before .before .before .before .before .before .before .before .good-parameters .ensures) (not-false (c .before .before .before .before .before .before .before .before .good-parameters .result) (c .before .before .before .before .before .before .before .if2 .left)) (c .before .before .before .before .before .is-content .ensures)
-    (not-false (c .before .before .before .before .before .is-content .result) (c .before .before .before .before .if3 .left))
-    (c .before .before .before .jet-at .ensures) (c .before .before .with-message .ensures) (c .before .with-parameters .ensures) (c .with-jet .ensures)
+    let at-if3 = c .before .before .before .before in
+    let at-if2 = at-if3 .before .before .before in
+    let at-if1 = at-if2 .before .before .before in
+    let at-place-in = at-if1 .before in
+    let s = at-place-in .before .before .before .before in
+    let d = s .args .d .now in
+    obeyed (holds (named (at-place-in .place-in .ensures) (at-if1 .if1 .left)) (holds (good at-if2) (holds (content at-if3) end)))
+    (part-written (jet at-if1) (λ (j : Jet). with-both j (parameters-in d) (drop 38 d)) (rw lent-tail at (c .before .before .put-both .ensures)))
 
 pub set-both-spec : {M : Type 1} → statement M
 set-both-spec =
     tie.close
     (tie.spec
-    shared-slice-read-t8
-    has-jet-requires
+    (λ c κs. search needs)
+    (λ c. search needs)
     returns
-    parameters-in-requires
-    good-parameters-requires
+    (λ c. search needs)
+    (λ c. search needs)
+    (λ c. search needs)
+    (λ c κs. search needs)
+    (λ c. search needs)
     returns-2
-    sub-message
-    part-message-start
-    part-message-end
-    is-content-requires
+    (λ c. search needs)
+    (λ c. search needs)
+    (λ c. search needs)
+    (λ c κs. search needs)
+    (λ c. search needs)
     returns-3
-    jet-at-requires
-    with-message-requires
-    with-parameters-requires
-    with-jet-requires
+    (λ c. search needs)
+    (λ c. search needs)
+    (λ c. search needs)
+    (λ c. search needs)
+    put-both-requires
+    (λ c. search needs)
     returns-4)

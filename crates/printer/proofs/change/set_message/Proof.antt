@@ -1,96 +1,69 @@
--- `printer::change::set_message` meets its contract: its tests are the rule's, in the rule's order, and the part behind the jet number
--- is the rest of the data.
-use Prim.Native.Nat.{ℕ, _-_}
-use mathlib.Core.Bool.{Bool, true, false}
-use mathlib.Core.List.{List}
-use mathlib.Core.Path.{_≡_, sym, _∙_}
+-- `printer::change::set_message` meets its contract: its tests are the rule's in the rule's order, and behind them the jet's part takes the message.
+use mathlib.Core.Bool.{true}
+use mathlib.Core.Path.{_≡_}
 use borrow.Author.Needs.{needs}
-use borrow.Author.Tests.{not-true, not-false}
-use lib.ListN.{length, take, drop}
-use Rattle.frame.proofs.Laws.{lent-tail}
+use lib.ListN.{drop}
+use Rattle.frame.proofs.Ground.{lent-tail}
 use Rattle.content.specs.Content.{is-content}
-use Rattle.printer.specs.Jet.{has-jet, with-message}
-use Rattle.printer.specs.State.{jet-at, with-jet}
-use Rattle.printer.specs.Change.{refused, changed, jet-number, set-message}
-use Rattle.printer.specs.declared.jet.Jet.{Jet}
-use Rattle.printer.specs.declared.state.Printer.{Printer}
-use Rattle.printer.proofs.Messages.{content-short}
+use Rattle.printer.specs.Jet.{Jet, with-message}
+use Rattle.printer.specs.Order.{jet-number}
+use Rattle.printer.specs.Change.{set-message}
+use Rattle.printer.proofs.Valid.{content-short}
+use Rattle.printer.proofs.Orders.{denied, granted, here, past, end, holds, refused, obeyed}
+use Rattle.printer.proofs.Part.{Stands, part-size, part-written, not-named, named, stands}
 use Rattle.printer.proofs.change.set_message.Statement.{statement}
 use Rattle.printer.proofs.change.set_message.Tie as tie
 
-module _ (p : Printer) (d : List ℕ) {here : Bool} (h : here ≡ has-jet (p .kind) (jet-number d)) where
-  no-jet : here ≡ false → refused 8 p ≡ set-message p d
-  unfolding set-message
-  no-jet f = rw (← h, f)
+jet : (c : tie.Else1) → let a = c .before .before .before .before .before .args in Stands (a .state .now) (jet-number (a .d .now)) (c .before .place-in .result)
+jet c = stands (c .before .place-in .ensures) (c .if1 .left) (c .before .before .before .before .before .pre .0) (c .before .before .before .before .slice-known .given)
 
-  module _ (t : here ≡ true) {good : Bool} (g : good ≡ is-content (take (length d - 1) (drop 1 d))) where
-    no-content : good ≡ false → refused 10 p ≡ set-message p d
-    unfolding set-message
-    no-content f = rw (← h, t, ← lent-tail 1 d, ← g, f)
-
-    done : {jet after : Jet} {q : Printer} → good ≡ true → jet ≡ jet-at p (jet-number d) → after ≡ with-message jet (take (length d - 1) (drop 1 d))
-        → q ≡ with-jet p (jet-number d) after → changed q ≡ set-message p d
-    unfolding set-message
-    done u e w r = rw (← h, t, ← lent-tail 1 d, ← g, u, r, w, e)
-
-shared-slice-read-t7 : tie.Need-shared-slice-read-t7
-shared-slice-read-t7 c = search needs
-
-has-jet-requires : tie.Need-has-jet-requires
-has-jet-requires c κs = search needs
+content : (c : tie.Else2) → is-content (drop 1 (c .before .before .before .before .before .before .before .before .args .d .now)) ≡ true
+content c = granted (rw lent-tail at (c .before .is-content .ensures)) (c .if2 .left)
 
 returns : tie.Need-returns
-returns c =
-    let a = c .before .before .before .before .args in
-    no-jet (a .p) (a .d .now) (c .before .has-jet .ensures) (not-true (c .before .has-jet .result) (c .if1 .taken))
-
-sub-message : tie.Need-sub-message
-sub-message c = search needs
-
-part-message-start : tie.Need-part-message-start
-part-message-start c = search needs
-
-part-message-end : tie.Need-part-message-end
-part-message-end c = search needs
-
-is-content-requires : tie.Need-is-content-requires
-is-content-requires c κs = search needs
+unfolding set-message
+returns c = refused (here (not-named (c .before .place-in .ensures) (c .if1 .taken)))
 
 returns-2 : tie.Need-returns-2
+unfolding set-message
 returns-2 c =
-    let a = c .before .before .before .before .before .before .before .args in
-    no-content (a .p) (a .d .now) (c .before .before .before .before .has-jet .ensures) (not-false (c .before .before .before .before .has-jet .result) (c .before .before .before .if1 .left)) (c .before .is-content .ensures)
-    (not-true (c .before .is-content .result) (c .if2 .taken))
+    let at-place-in = c .before .before .before .before in
+    refused (past (named (at-place-in .place-in .ensures) (c .before .before .before .if1 .left))
+    (here (denied (rw lent-tail at (c .before .is-content .ensures)) (c .if2 .taken))))
 
-jet-at-requires : tie.Need-jet-at-requires
-jet-at-requires c κs = search needs
-
-with-message-requires : tie.Need-with-message-requires
-with-message-requires c κs = content-short _ (sym (c .before .before .is-content .ensures) ∙ not-false (c .before .before .is-content .result) (c .before .if2 .left))
-
-with-jet-requires : tie.Need-with-jet-requires
-with-jet-requires c κs = search needs
+put-message-requires : tie.Need-put-message-requires
+put-message-requires c κs =
+    let at-if1 = c .before .before .before .before in
+    (part-size (jet at-if1), rw lent-tail (content-short _ (content (c .before))))
 
 returns-3 : tie.Need-returns-3
+unfolding set-message
 returns-3 c =
-    let a = c .before .before .before .before .before .before .before .before .before .before .args in
-    done (a .p) (a .d .now) (c .before .before .before .before .before .before .before .has-jet .ensures) (not-false (c .before .before .before .before .before .before .before .has-jet .result) (c .before .before .before .before .before .before .if1 .left)) (c .before .before .before .before .is-content .ensures)
-    (not-false (c .before .before .before .before .is-content .result) (c .before .before .before .if2 .left))
-    (c .before .before .jet-at .ensures) (c .before .with-message .ensures) (c .with-jet .ensures)
+    let at-if2 = c .before .before .before .before in
+    let at-if1 = at-if2 .before .before .before in
+    let at-place-in = at-if1 .before in
+    let s = at-place-in .before .before .before .before in
+    let d = s .args .d .now in
+    obeyed (holds (named (at-place-in .place-in .ensures) (at-if1 .if1 .left)) (holds (content at-if2) end))
+    (part-written (jet at-if1) (λ (j : Jet). with-message j (drop 1 d)) (rw lent-tail at (c .before .before .put-message .ensures)))
 
 pub set-message-spec : {M : Type 1} → statement M
 set-message-spec =
     tie.close
     (tie.spec
-    shared-slice-read-t7
-    has-jet-requires
+    (λ c κs. search needs)
+    (λ c. search needs)
     returns
-    sub-message
-    part-message-start
-    part-message-end
-    is-content-requires
+    (λ c. search needs)
+    (λ c. search needs)
+    (λ c. search needs)
+    (λ c κs. search needs)
+    (λ c. search needs)
     returns-2
-    jet-at-requires
-    with-message-requires
-    with-jet-requires
+    (λ c. search needs)
+    (λ c. search needs)
+    (λ c. search needs)
+    (λ c. search needs)
+    put-message-requires
+    (λ c. search needs)
     returns-3)

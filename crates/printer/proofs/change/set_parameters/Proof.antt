@@ -1,84 +1,65 @@
--- `printer::change::set_parameters` meets its contract: its tests are the rule's, in the rule's order.
-use Prim.Native.Nat.{ℕ}
-use mathlib.Core.Bool.{Bool, true, false}
-use mathlib.Core.List.{List}
+-- `printer::change::set_parameters` meets its contract: its tests are the rule's in the rule's order, and behind them the jet's part takes the parameters.
+use mathlib.Core.Bool.{true}
 use mathlib.Core.Path.{_≡_}
 use borrow.Author.Needs.{needs}
-use borrow.Author.Tests.{not-true, not-false}
-use Rattle.printer.specs.Parameters.{good-parameters}
-use Rattle.printer.specs.Jet.{has-jet, with-parameters}
-use Rattle.printer.specs.State.{jet-at, with-jet}
-use Rattle.printer.specs.Change.{refused, changed, jet-number, parameters-in, set-parameters}
-use Rattle.printer.specs.declared.jet.Jet.{Jet}
-use Rattle.printer.specs.declared.state.Printer.{Printer}
+use Rattle.printer.specs.Jet.{Jet, good-parameters, with-parameters}
+use Rattle.printer.specs.Order.{jet-number}
+use Rattle.printer.specs.Change.{parameters-in, set-parameters}
+use Rattle.printer.proofs.Orders.{denied, granted, here, past, end, holds, refused, obeyed}
+use Rattle.printer.proofs.Part.{Stands, part-size, part-written, not-named, named, stands}
 use Rattle.printer.proofs.change.set_parameters.Statement.{statement}
 use Rattle.printer.proofs.change.set_parameters.Tie as tie
 
-module _ (p : Printer) (d : List ℕ) {here : Bool} (h : here ≡ has-jet (p .kind) (jet-number d)) where
-  no-jet : here ≡ false → refused 8 p ≡ set-parameters p d
-  unfolding set-parameters
-  no-jet f = rw (← h, f)
+jet : (c : tie.Else1) → let a = c .before .before .before .before .before .args in Stands (a .state .now) (jet-number (a .d .now)) (c .before .place-in .result)
+jet c = stands (c .before .place-in .ensures) (c .if1 .left) (c .before .before .before .before .before .pre .0) (c .before .before .before .before .slice-known .given)
 
-  module _ (t : here ≡ true) {s : List ℕ} (i : s ≡ parameters-in d) {good : Bool} (g : good ≡ good-parameters s) where
-    not-good : good ≡ false → refused 9 p ≡ set-parameters p d
-    unfolding set-parameters
-    not-good f = rw (← h, t, ← i, ← g, f)
-
-    done : {jet after : Jet} {q : Printer} → good ≡ true → jet ≡ jet-at p (jet-number d) → after ≡ with-parameters jet s
-        → q ≡ with-jet p (jet-number d) after → changed q ≡ set-parameters p d
-    unfolding set-parameters
-    done u e w r = rw (← h, t, ← i, ← g, u, r, w, e)
-
-shared-slice-read-t7 : tie.Need-shared-slice-read-t7
-shared-slice-read-t7 c = search needs
-
-has-jet-requires : tie.Need-has-jet-requires
-has-jet-requires c κs = search needs
+good : (c : tie.Else2) → good-parameters (parameters-in (c .before .before .before .before .before .before .before .before .args .d .now)) ≡ true
+good c = granted (c .before .good-parameters .ensures) (c .if2 .left)
 
 returns : tie.Need-returns
-returns c =
-    let a = c .before .before .before .before .args in
-    no-jet (a .p) (a .d .now) (c .before .has-jet .ensures) (not-true (c .before .has-jet .result) (c .if1 .taken))
-
-parameters-in-requires : tie.Need-parameters-in-requires
-parameters-in-requires c κs = search needs
-
-good-parameters-requires : tie.Need-good-parameters-requires
-good-parameters-requires c κs = search needs
+unfolding set-parameters
+returns c = refused (here (not-named (c .before .place-in .ensures) (c .if1 .taken)))
 
 returns-2 : tie.Need-returns-2
+unfolding set-parameters
 returns-2 c =
-    let a = c .before .before .before .before .before .before .before .args in
-    not-good (a .p) (a .d .now) (c .before .before .before .before .has-jet .ensures) (not-false (c .before .before .before .before .has-jet .result) (c .before .before .before .if1 .left)) (c .before .before .parameters-in .ensures)
-    (c .before .good-parameters .ensures) (not-true (c .before .good-parameters .result) (c .if2 .taken))
+    let at-place-in = c .before .before .before .before in
+    refused (past (named (at-place-in .place-in .ensures) (c .before .before .before .if1 .left))
+    (here (denied (c .before .good-parameters .ensures) (c .if2 .taken))))
 
-jet-at-requires : tie.Need-jet-at-requires
-jet-at-requires c κs = search needs
-
-with-parameters-requires : tie.Need-with-parameters-requires
-with-parameters-requires c κs = search needs
-
-with-jet-requires : tie.Need-with-jet-requires
-with-jet-requires c κs = search needs
+put-parameters-requires : tie.Need-put-parameters-requires
+put-parameters-requires c κs =
+    let at-if1 = c .before .before .before .before in
+    (part-size (jet at-if1), search needs, good (c .before))
 
 returns-3 : tie.Need-returns-3
+unfolding set-parameters
 returns-3 c =
-    let a = c .before .before .before .before .before .before .before .before .before .before .args in
-    done (a .p) (a .d .now) (c .before .before .before .before .before .before .before .has-jet .ensures) (not-false (c .before .before .before .before .before .before .before .has-jet .result) (c .before .before .before .before .before .before .if1 .left)) (c .before .before .before .before .before .parameters-in .ensures)
-    (c .before .before .before .before .good-parameters .ensures) (not-false (c .before .before .before .before .good-parameters .result) (c .before .before .before .if2 .left))
-    (c .before .before .jet-at .ensures) (c .before .with-parameters .ensures) (c .with-jet .ensures)
+    let at-if2 = c .before .before .before .before in
+    let at-if1 = at-if2 .before .before .before in
+    let at-place-in = at-if1 .before in
+    let s = at-place-in .before .before .before .before in
+    let d = s .args .d .now in
+    obeyed (holds (named (at-place-in .place-in .ensures) (at-if1 .if1 .left)) (holds (good at-if2) end))
+    (part-written (jet at-if1) (λ (j : Jet). with-parameters j (parameters-in d)) (c .before .before .put-parameters .ensures))
 
 pub set-parameters-spec : {M : Type 1} → statement M
 set-parameters-spec =
     tie.close
     (tie.spec
-    shared-slice-read-t7
-    has-jet-requires
+    (λ c κs. search needs)
+    (λ c. search needs)
     returns
-    parameters-in-requires
-    good-parameters-requires
+    (λ c. search needs)
+    (λ c. search needs)
+    (λ c. search needs)
+    (λ c κs. search needs)
+    (λ c. search needs)
     returns-2
-    jet-at-requires
-    with-parameters-requires
-    with-jet-requires
+    (λ c. search needs)
+    (λ c. search needs)
+    (λ c. search needs)
+    (λ c. search needs)
+    put-parameters-requires
+    (λ c. search needs)
     returns-3)

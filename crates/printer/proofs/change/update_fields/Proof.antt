@@ -1,135 +1,185 @@
--- `printer::change::update_fields` meets its contract: the jets of head 1 stand in the first two places, whether the printer has the
--- second or not, and in a valid state no message is longer than 512 bytes; its tests are the rule's, in the rule's order.
-use Prim.Native.Nat.{ℕ, _+_, _≤_}
-use mathlib.Core.Bool.{Bool, true, false}
+-- `printer::change::update_fields` meets its contract: both jets' positions are counted before the first is written, and that leaves the second as it was.
+use Prim.Native.Nat.{ℕ, _+_, _-_}
+use mathlib.Core.Bool.{true, false}
 use mathlib.Core.List.{List}
-use mathlib.Core.Path.{_≡_, sym, _∙_, ap}
+use mathlib.Core.Path.{_≡_, ap₂}
 use native.Mathlib.Omega.{arith}
 use borrow.Author.Needs.{needs}
-use borrow.Author.Tests.{not-true, not-false, lt-ltb, le-ltb}
+use borrow.Author.Tests.{lt-ltb, le-ltb}
+use borrow.Rule.Slice.PartMut.{putMid}
+use lib.Dec.{ltb}
 use lib.ListN.{drop}
 use Rattle.content.specs.Byte.{all-characters}
-use Rattle.content.specs.Position.{field-positions}
-use Rattle.printer.specs.Jet.{message}
-use Rattle.printer.specs.State.{jet-at, with-jet, valid}
-use Rattle.printer.specs.Change.{refused, changed, updated-jet, update-fields}
-use Rattle.printer.specs.declared.jet.Jet.{Jet}
-use Rattle.printer.specs.declared.state.Printer.{Printer}
-use Rattle.printer.proofs.Valid.{valid-tells, message-short}
+use Rattle.printer.specs.Jet.{Jet, jet-size}
+use Rattle.printer.specs.State.{Printer, printer-of}
+use Rattle.printer.specs.Change.{first-of-head, second-of-head, positions, updated-jet, update-fields}
+use Rattle.printer.proofs.Valid.{valid-size}
+use Rattle.printer.proofs.Orders.{denied, granted, here, past, end, holds, refused, obeyed}
+use Rattle.printer.proofs.Part.{Stands, part-inside, part-size, part-jet, part-short}
+use Rattle.printer.proofs.Head.{second-stands, second-short, both-written}
 use Rattle.printer.proofs.change.update_fields.Statement.{statement}
 use Rattle.printer.proofs.change.update_fields.Tie as tie
 
-module _ (p : Printer) {n : ℕ} {jet : Jet} (v : valid p ≡ true) where
-  first-short : n ≡ 1 → jet ≡ jet-at p n → jet .length ≤ 512
-  unfolding jet-at
-  first-short e g = rw (g, e) (message-short _ (p .first) (valid-tells p v .first))
+-- The places where the jets' parts begin, and the state's bytes.
+abbrev bytes : tie.After-jet-place → List ℕ
+bytes c = c .before .before .before .before .before .args .state .now
 
-  second-short : n ≡ 2 → jet ≡ jet-at p n → jet .length ≤ 512
-  unfolding jet-at
-  second-short e g = rw (g, e) (message-short _ (p .second) (valid-tells p v .second))
+abbrev at-1 : tie.After-jet-place2 → tie.After-jet-place
+at-1 c = c .before .before .before
 
-module _ (p : Printer) (text : List ℕ) {a b : ℕ} {first second : Jet} (i : a ≡ 1) (j : b ≡ 2) (f : first ≡ jet-at p a)
-    (s : second ≡ jet-at p b) {taken more : ℕ} (m : taken ≡ field-positions (message first))
-    (n : more ≡ field-positions (message second)) where
-  f′ : first ≡ jet-at p 1
-  f′ = f ∙ ap (λ (k : ℕ). jet-at p k) i
+abbrev at-2 : tie.After-positions2 → tie.After-jet-place2
+at-2 c = c .before .before .before .before .before .before
 
-  s′ : second ≡ jet-at p 2
-  s′ = s ∙ ap (λ (k : ℕ). jet-at p k) j
+-- Where the two jets stand, and how many positions they have.
+first : (c : tie.After-jet-place) → Stands (bytes c) 1 (c .jet-place .result)
+first c =
+    record {
+      full = valid-size _ (c .before .before .before .before .before .pre);
+      known = c .before .before .before .before .slice-known .given;
+      place = omega arith;
+      least = omega arith;
+      most = omega arith;
+    }
 
-  no-position : taken + more ≡ 0 → refused 11 p ≡ update-fields p text
-  unfolding update-fields
-  no-position z = rw (← f′, ← s′, ← m, ← n, le-ltb 0 (taken + more) (omega arith))
+second : (c : tie.After-jet-place2) → Stands (bytes (at-1 c)) 2 (c .jet-place2 .result)
+second c = record { full = first (at-1 c) .full; known = first (at-1 c) .known; place = omega arith; least = omega arith; most = omega arith }
 
-  module _ (z : taken + more ≡ 0 → ⊥) {good : Bool} (g : good ≡ all-characters text) where
-    no-character : good ≡ false → refused 13 p ≡ update-fields p text
-    unfolding update-fields
-    no-character e = rw (← f′, ← s′, ← m, ← n, lt-ltb 0 (taken + more) (omega arith), ← g, e)
+taken : (c : tie.After-positions2) → c .before .before .before .positions .result ≡ positions (first-of-head (printer-of (bytes (at-1 (at-2 c)))))
+taken c = rw (part-jet (first (at-1 (at-2 c)))) at (c .before .before .before .positions .ensures .0)
 
-    done : {x y : Jet} {q r : Printer} → good ≡ true → x ≡ updated-jet first text → q ≡ with-jet p a x
-        → y ≡ updated-jet second (drop taken text) → r ≡ with-jet q b y → changed r ≡ update-fields p text
-    unfolding update-fields
-    done e u w x y = rw (← f′, ← s′, ← m, ← n, lt-ltb 0 (taken + more) (omega arith), ← g, e, y, x, w, u, i, j)
+abbrev all-positions : Printer → ℕ
+all-positions p = positions (first-of-head p) + positions (second-of-head p)
 
-jet-of-requires : tie.Need-jet-of-requires
-jet-of-requires c κs = search needs
+counted : (c : tie.After-positions2) → c .before .before .before .positions .result + c .positions2 .result ≡ all-positions (printer-of (bytes (at-1 (at-2 c))))
+counted c = ap₂ _+_ (taken c) (rw (part-jet (second (at-2 c))) at (c .positions2 .ensures .0))
 
-jet-of-requires-2 : tie.Need-jet-of-requires-2
-jet-of-requires-2 c κs = search needs
+none-left : {s k : ℕ} → s ≡ k → s ≡ 0 → ltb 0 k ≡ false
+none-left {s} {k} e z = le-ltb 0 k (omega arith)
 
-jet-at-requires : tie.Need-jet-at-requires
-jet-at-requires c κs = search needs
+some-left : {s k : ℕ} → s ≡ k → (s ≡ 0 → ⊥) → ltb 0 k ≡ true
+some-left {s} {k} e n = lt-ltb 0 k (omega arith)
 
-jet-at-requires-2 : tie.Need-jet-at-requires-2
-jet-at-requires-2 c κs = search needs
+some : (c : tie.Else1) → ltb 0 (all-positions (printer-of (bytes (at-1 (at-2 (c .before)))))) ≡ true
+some c = some-left (counted (c .before)) (c .if1 .left)
+
+characters : (c : tie.Else2) → all-characters (c .before .before .before .before .before .before .before .before .before .before .before .before .before .before .before .before .before .args .text .now) ≡ true
+characters c = granted (c .before .all-characters .ensures) (c .if2 .left)
+
+-- The second jet when the first is written.
+still : (c : tie.After-slice-known2)
+    → let two = c .before .before .before .before .before .before .before .before .before .before .before .before .before in
+    let at = at-1 two .jet-place .result in
+    Stands (putMid at (at + jet-size - at) (bytes (at-1 two)) (c .before .before .update-jet .last .0)) 2 (two .jet-place2 .result)
+still c =
+    let two = c .before .before .before .before .before .before .before .before .before .before .before .before .before in
+    let update-jet = c .before .before .update-jet in
+    second-stands (first (at-1 two)) (second two) (update-jet .last .0) (update-jet .kept .0) (c .slice-known2 .given)
+
+part-positions-end : tie.Need-part-positions-end
+part-positions-end c =
+    let at-jet-place = c .before .before .before .before in
+    part-inside (first at-jet-place)
 
 positions-requires : tie.Need-positions-requires
-positions-requires c κs = first-short (c .before .before .before .before .before .args .p) (c .before .before .before .before .before .pre) (c .before .before .before .jet-of .ensures) (c .before .jet-at .ensures)
+positions-requires c κs =
+    let at-jet-place = c .before .before .before .before .before in
+    let s = at-jet-place .before .before .before .before .before in
+    (part-size (first at-jet-place), part-short (first at-jet-place) (s .pre))
+
+part-positions-end-2 : tie.Need-part-positions-end-2
+part-positions-end-2 c =
+    let at-jet-place2 = c .before .before .before .before in
+    part-inside (second at-jet-place2)
 
 positions-requires-2 : tie.Need-positions-requires-2
-positions-requires-2 c κs = second-short (c .before .before .before .before .before .before .args .p) (c .before .before .before .before .before .before .pre) (c .before .before .before .jet-of2 .ensures) (c .before .jet-at2 .ensures)
-
-add-if1 : tie.Need-add-if1
-add-if1 c = search needs
+positions-requires-2 c κs =
+    let at-jet-place2 = c .before .before .before .before .before in
+    let s = at-jet-place2 .before .before .before .before .before .before .before .before in
+    (part-size (second at-jet-place2), part-short (second at-jet-place2) (s .pre))
 
 returns : tie.Need-returns
-returns c =
-    let a = c .before .before .before .before .before .before .before .before .args in
-    no-position (a .p) (a .text .now) (c .before .before .before .before .before .before .jet-of .ensures) (c .before .before .before .before .before .jet-of2 .ensures) (c .before .before .before .before .jet-at .ensures) (c .before .before .before .jet-at2 .ensures)
-    (c .before .before .positions .ensures .0) (c .before .positions2 .ensures .0) (c .if1 .taken)
-
-all-characters-requires : tie.Need-all-characters-requires
-all-characters-requires c κs = search needs
+unfolding update-fields
+returns c = refused (here (none-left (counted (c .before)) (c .if1 .taken)))
 
 returns-2 : tie.Need-returns-2
+unfolding update-fields
 returns-2 c =
-    let a = c .before .before .before .before .before .before .before .before .before .before .args in
-    no-character (a .p) (a .text .now) (c .before .before .before .before .before .before .before .before .jet-of .ensures) (c .before .before .before .before .before .before .before .jet-of2 .ensures) (c .before .before .before .before .before .before .jet-at .ensures) (c .before .before .before .before .before .jet-at2 .ensures)
-    (c .before .before .before .before .positions .ensures .0) (c .before .before .before .positions2 .ensures .0) (c .before .before .if1 .left) (c .before .all-characters .ensures)
-    (not-true (c .before .all-characters .result) (c .if2 .taken))
+    refused (past (some (c .before .before))
+    (here (denied (c .before .all-characters .ensures) (c .if2 .taken))))
+
+part-update-jet-end : tie.Need-part-update-jet-end
+part-update-jet-end c =
+    let at-jet-place = c .before .before .before .before .before .before .before .before .before .before .before .before in
+    part-inside (first at-jet-place)
 
 update-jet-requires : tie.Need-update-jet-requires
-update-jet-requires c κs = (
-  first-short (c .before .before .before .before .before .before .before .before .before .before .args .p) (c .before .before .before .before .before .before .before .before .before .before .pre) (c .before .before .before .before .before .before .before .before .jet-of .ensures) (c .before .before .before .before .before .before .jet-at .ensures),
-  sym (c .before .all-characters .ensures) ∙ not-false (c .before .all-characters .result) (c .if2 .left),
-)
+update-jet-requires c κs =
+    let at-jet-place = c .before .before .before .before .before .before .before .before .before .before .before .before .before in
+    let s = at-jet-place .before .before .before .before .before in
+    (part-size (first at-jet-place), part-short (first at-jet-place) (s .pre))
 
-with-jet-requires : tie.Need-with-jet-requires
-with-jet-requires c κs = search needs
+part-update-jet-end-2 : tie.Need-part-update-jet-end-2
+part-update-jet-end-2 c = part-inside (still c)
 
 update-jet-requires-2 : tie.Need-update-jet-requires-2
-update-jet-requires-2 c κs = (
-  second-short (c .before .before .before .before .before .before .before .before .before .before .before .before .args .p) (c .before .before .before .before .before .before .before .before .before .before .before .before .pre) (c .before .before .before .before .before .before .before .before .before .jet-of2 .ensures) (c .before .before .before .before .before .before .before .jet-at2 .ensures),
-  sym (c .before .before .before .all-characters .ensures) ∙ not-false (c .before .before .before .all-characters .result) (c .before .before .if2 .left),
-)
-
-with-jet-requires-2 : tie.Need-with-jet-requires-2
-with-jet-requires-2 c κs = search needs
+update-jet-requires-2 c κs =
+    let at-if2 = c .before .before .before .before .before in
+    let at-jet-place2 = at-if2 .before .before .before .before .before .before .before .before .before in
+    let at-jet-place = at-jet-place2 .before .before .before in
+    let s = at-jet-place .before .before .before .before .before in (
+      part-size (still (c .before)),
+      second-short (first at-jet-place) (second at-jet-place2) (c .before .before .before .update-jet .last .0) (c .before .before .before .update-jet .kept .0) (s .pre),
+    )
 
 returns-3 : tie.Need-returns-3
+unfolding update-fields
 returns-3 c =
-    let a = c .before .before .before .before .before .before .before .before .before .before .before .before .before .before .args in
-    done (a .p) (a .text .now) (c .before .before .before .before .before .before .before .before .before .before .before .before .jet-of .ensures) (c .before .before .before .before .before .before .before .before .before .before .before .jet-of2 .ensures) (c .before .before .before .before .before .before .before .before .before .before .jet-at .ensures) (c .before .before .before .before .before .before .before .before .before .jet-at2 .ensures)
-    (c .before .before .before .before .before .before .before .before .positions .ensures .0) (c .before .before .before .before .before .before .before .positions2 .ensures .0) (c .before .before .before .before .before .before .if1 .left) (c .before .before .before .before .before .all-characters .ensures)
-    (not-false (c .before .before .before .before .before .all-characters .result) (c .before .before .before .before .if2 .left))
-    (c .before .before .before .update-jet .ensures) (c .before .before .with-jet .ensures) (c .before .update-jet2 .ensures) (c .with-jet2 .ensures)
+    let at-update-jet = c .before .before .before .before .before .before in
+    let at-if2 = at-update-jet .before .before in
+    let at-if1 = at-if2 .before .before in
+    let at-positions2 = at-if1 .before in
+    let at-jet-place2 = at-positions2 .before .before .before .before .before .before in
+    let at-jet-place = at-jet-place2 .before .before .before in
+    let s = at-jet-place .before .before .before .before .before in
+    let text = s .args .text .now in
+    obeyed (holds (some at-if1) (holds (characters at-if2) end))
+    (both-written (first at-jet-place) (second at-jet-place2) (at-update-jet .update-jet .last .0) (at-update-jet .update-jet .kept .0)
+    (λ (j : Jet). updated-jet j text) (λ (j : Jet). updated-jet j (drop (positions (first-of-head (printer-of (s .args .state .now)))) text))
+    (at-update-jet .update-jet .ensures) (rw (taken at-positions2) at (c .before .before .update-jet2 .ensures)))
 
 pub update-fields-spec : {M : Type 1} → statement M
 update-fields-spec =
     tie.close
     (tie.spec
-    jet-of-requires
-    jet-of-requires-2
-    jet-at-requires
-    jet-at-requires-2
+    (λ c κs. search needs)
+    (λ c κs. search needs)
+    (λ c κs. search needs)
+    (λ c κs. search needs)
+    (λ c κs. search needs)
+    (λ c κs. search needs)
+    (λ c. search needs)
+    (λ c. search needs)
+    (λ c. search needs)
+    (λ c. search needs)
+    part-positions-end
     positions-requires
+    (λ c. search needs)
+    (λ c. search needs)
+    part-positions-end-2
     positions-requires-2
-    add-if1
+    (λ c. search needs)
+    (λ c. search needs)
     returns
-    all-characters-requires
+    (λ c κs. search needs)
+    (λ c. search needs)
     returns-2
+    (λ c. search needs)
+    (λ c. search needs)
+    part-update-jet-end
     update-jet-requires
-    with-jet-requires
+    (λ c. search needs)
+    (λ c. search needs)
+    part-update-jet-end-2
     update-jet-requires-2
-    with-jet-requires-2
+    (λ c. search needs)
     returns-3)

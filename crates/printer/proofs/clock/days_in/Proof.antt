@@ -1,12 +1,9 @@
 -- `printer::clock::days_in` meets its contract. Its tests are those of the rule, in its order, and `is_leap` answers the one for February.
-use Rattle.frame.proofs.Laws.{tests}
+use Rattle.frame.proofs.Ground.{tests}
 use Rattle.printer.specs.Clock.{days-in}
 use borrow.Author.Needs.{needs}
 use Rattle.printer.proofs.clock.days_in.Statement.{statement}
 use Rattle.printer.proofs.clock.days_in.Tie as tie
-
-is-leap-requires : tie.Need-is-leap-requires
-is-leap-requires c κs = search needs
 
 returns : tie.Need-returns
 unfolding days-in
@@ -39,4 +36,4 @@ returns-7 c = search tests
 pub days-in-spec : {M : Type 1} → statement M
 days-in-spec =
     tie.close
-    (tie.spec is-leap-requires returns returns-2 returns-3 returns-4 returns-5 returns-6 returns-7)
+    (tie.spec (λ c κs. search needs) returns returns-2 returns-3 returns-4 returns-5 returns-6 returns-7)

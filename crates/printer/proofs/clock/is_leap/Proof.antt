@@ -1,12 +1,9 @@
 -- `printer::clock::is_leap` meets its contract. Its tests are those of the rule, in its order.
-use Rattle.frame.proofs.Laws.{tests}
+use Rattle.frame.proofs.Ground.{tests}
 use Rattle.printer.specs.Clock.{is-leap}
 use borrow.Author.Needs.{needs}
 use Rattle.printer.proofs.clock.is_leap.Statement.{statement}
 use Rattle.printer.proofs.clock.is_leap.Tie as tie
-
-add-y : tie.Need-add-y
-add-y c = search needs
 
 returns : tie.Need-returns
 unfolding is-leap
@@ -21,4 +18,4 @@ unfolding is-leap
 returns-3 c = search tests
 
 pub is-leap-spec : {M : Type 1} → statement M
-is-leap-spec = tie.close (tie.spec add-y returns returns-2 returns-3)
+is-leap-spec = tie.close (tie.spec (λ c. search needs) returns returns-2 returns-3)

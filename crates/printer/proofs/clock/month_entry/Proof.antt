@@ -2,9 +2,9 @@
 use Prim.Native.Nat.{_*_, _-_, _≤_}
 use mathlib.Core.Path.{sym}
 use native.Mathlib.Omega.{arith}
-use Rattle.frame.proofs.Laws.{within-true}
+use Rattle.frame.proofs.Ground.{within-true}
 use Rattle.printer.specs.Clock.{months}
-use Rattle.printer.proofs.Moments.{three-at}
+use Rattle.printer.proofs.Numbers.{three-at}
 use borrow.Author.Needs.{needs}
 use Rattle.printer.proofs.clock.month_entry.Statement.{statement}
 use Rattle.printer.proofs.clock.month_entry.Tie as tie
@@ -15,20 +15,11 @@ month c = within-true 1 12 (c .args .month) (c .pre)
 sub-i : tie.Need-sub-i
 sub-i c = month c .0
 
-mul-i : tie.Need-mul-i
-mul-i c = search needs
-
 array-read-t8 : tie.Need-array-read-t8
 array-read-t8 c = omega (arith, month c)
 
-add-t3 : tie.Need-add-t3
-add-t3 c = search needs
-
 array-read-t12 : tie.Need-array-read-t12
 array-read-t12 c = omega (arith, month c)
-
-add-t4 : tie.Need-add-t4
-add-t4 c = search needs
 
 array-read-t16 : tie.Need-array-read-t16
 array-read-t16 c = omega (arith, month c)
@@ -39,4 +30,4 @@ returns c = sym (three-at months (3 * (c .args .month - 1)) (omega (arith, month
 pub month-entry-spec : {M : Type 1} → statement M
 month-entry-spec =
     tie.close
-    (tie.spec sub-i mul-i array-read-t8 add-t3 array-read-t12 add-t4 array-read-t16 returns)
+    (tie.spec sub-i (λ c. search needs) array-read-t8 (λ c. search needs) array-read-t12 (λ c. search needs) array-read-t16 returns)

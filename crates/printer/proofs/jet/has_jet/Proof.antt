@@ -1,6 +1,6 @@
 -- `printer::jet::has_jet` meets its contract: each return stands at the row of the table that its tests name.
 use borrow.Author.Needs.{needs}
-use Rattle.frame.proofs.Laws.{tests}
+use Rattle.frame.proofs.Ground.{tests}
 use Rattle.printer.specs.Jet.{has-jet}
 use Rattle.printer.proofs.jet.has_jet.Statement.{statement}
 use Rattle.printer.proofs.jet.has_jet.Tie as tie
@@ -8,9 +8,6 @@ use Rattle.printer.proofs.jet.has_jet.Tie as tie
 returns : tie.Need-returns
 unfolding has-jet
 returns c = search tests
-
-within-requires : tie.Need-within-requires
-within-requires c κs = search needs
 
 returns-2 : tie.Need-returns-2
 unfolding has-jet
@@ -23,9 +20,6 @@ returns-3 c = search tests
 returns-4 : tie.Need-returns-4
 unfolding has-jet
 returns-4 c = search tests
-
-within-requires-2 : tie.Need-within-requires-2
-within-requires-2 c κs = search needs
 
 returns-5 : tie.Need-returns-5
 unfolding has-jet
@@ -40,10 +34,10 @@ has-jet-spec =
     tie.close
     (tie.spec
     returns
-    within-requires
+    (λ c κs. search needs)
     returns-2
     returns-3
     returns-4
-    within-requires-2
+    (λ c κs. search needs)
     returns-5
     returns-6)

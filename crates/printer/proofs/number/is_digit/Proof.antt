@@ -1,5 +1,5 @@
 -- `printer::number::is_digit` meets its contract. Its two bounds are those of the rule.
-use Rattle.frame.proofs.Laws.{tests}
+use Rattle.frame.proofs.Ground.{tests}
 use Rattle.printer.specs.Number.{is-digit}
 use Rattle.printer.proofs.number.is_digit.Statement.{statement}
 use Rattle.printer.proofs.number.is_digit.Tie as tie

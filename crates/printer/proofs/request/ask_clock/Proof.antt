@@ -1,28 +1,40 @@
--- `printer::request::ask_clock` meets its contract: in a valid state the clock is a real moment, and what is said is its text.
+-- `printer::request::ask_clock` meets its contract: a valid state's clock is a real moment, and the frame holds its text.
+use mathlib.Core.Path.{_≡_, sym, _∙_, ap}
+use native.Mathlib.Omega.{arith}
 use borrow.Author.Needs.{needs}
+use lib.ListN.{length}
+use Rattle.frame.specs.Build.{frame}
+use Rattle.printer.specs.Clock.{clock-text}
 use Rattle.printer.specs.Request.{ask-clock}
-use Rattle.printer.proofs.Valid.{valid-tells}
+use Rattle.printer.proofs.Valid.{valid-size, valid-printer, valid-clock}
+use Rattle.printer.proofs.Orders.{end, answer-told}
 use Rattle.printer.proofs.request.ask_clock.Statement.{statement}
 use Rattle.printer.proofs.request.ask_clock.Tie as tie
 
+clock-requires : tie.Need-clock-requires
+clock-requires c κs = valid-size _ (c .before .before .pre .0)
+
 clock-text-requires : tie.Need-clock-text-requires
-clock-text-requires c κs =
-    let s = c .before .before in
-    valid-tells (s .args .p) (s .pre .1) .clock
-
-slice-aggregate-say : tie.Need-slice-aggregate-say
-slice-aggregate-say c = search needs
-
-say-requires : tie.Need-say-requires
-say-requires c κs = search needs
-
-same-length : tie.Need-same-length
-same-length c = search needs
+clock-text-requires c κs = rw (c .clock .ensures) (valid-clock _ (valid-printer _ (c .before .before .before .pre .0)))
 
 returns : tie.Need-returns
 unfolding ask-clock
-returns c = rw (← c .before .before .before .before .before .clock-text .ensures) (c .before .before .say .ensures)
+returns c =
+    let at-clock-text = c .before .before .before .before .before in
+    let at-clock = at-clock-text .before in
+    let s = at-clock .before .before .before in
+    let text = at-clock-text .clock-text .ensures ∙ ap clock-text (at-clock .clock .ensures) in
+    let size : length (at-clock-text .clock-text .result) ≡ 22 = search needs in
+    answer-told (c .before .before .answer .ensures) end (ap (frame 0x9C) (sym text)) (omega arith) (omega arith) (s .pre .1)
 
 pub ask-clock-spec : {M : Type 1} → statement M
 ask-clock-spec =
-    tie.close (tie.spec clock-text-requires slice-aggregate-say say-requires same-length returns)
+    tie.close
+    (tie.spec
+    clock-requires
+    clock-text-requires
+    (λ c. search needs)
+    (λ c κs. search needs)
+    (λ c. search needs)
+    (λ c. search needs)
+    returns)

@@ -1,247 +1,148 @@
--- `printer::request::ask_message` meets its contract. In a valid state a message has 512 bytes at most, so parameters and message fit the local buffer, and the bytes said are both, one behind the other.
+-- `printer::request::ask_message` meets its contract: its tests are the rule's in the rule's order, and a valid state's message has 512
+-- bytes at most, so that parameters and message fit where the frame has them.
 use Prim.Native.Nat.{ℕ, _+_, _-_, _≤_}
 use mathlib.Core.Bool.{Bool, true}
-use mathlib.Core.List.{List, _++_}
-use mathlib.Core.Path.{_≡_, refl, sym, _∙_, ap, subst}
+use mathlib.Core.List.{List, _++_, append-assoc}
+use mathlib.Core.Path.{_≡_, sym, _∙_, ap, ap₂}
 use native.Mathlib.Omega.{arith}
 use borrow.Author.Needs.{needs}
-use borrow.Author.Tests.{not-true, not-false, le-leb}
 use borrow.Rule.Slice.PartMut.{midOf, putMid}
-use lib.ListN.{length, getD, take, drop, length-append}
-use lib.Seq.{length-take-le, take-at}
+use lib.ListN.{length, take, drop, length-append, length-take, length-drop, take-append-drop}
+use lib.Seq.{length-take-le}
 use Rattle.frame.specs.Ground.{over}
-use Rattle.frame.specs.Build.{Lays}
-use Rattle.frame.proofs.Laws.{length-over, laid-behind}
-use Rattle.printer.specs.Jet.{has-jet, has-message, message}
-use Rattle.printer.specs.State.{jet-at, valid}
+use Rattle.frame.specs.Build.{frame, Lays, Wraps}
+use Rattle.frame.specs.declared.build.Built.{Built}
+use Rattle.frame.proofs.Ground.{laid-behind}
+use Rattle.printer.specs.Counter.{counter-of}
+use Rattle.printer.specs.Jet.{has-message, message, has-parameters, parameters, jet-size, jet-of}
+use Rattle.printer.specs.State.{printer-of}
+use Rattle.printer.specs.Order.{jet-number, jet-in}
 use Rattle.printer.specs.Request.{ask-message}
-use Rattle.printer.specs.declared.jet.Jet.{Jet}
-use Rattle.printer.specs.declared.state.Printer.{Printer}
-use Rattle.printer.proofs.Valid.{valid-at, message-short}
+use Rattle.printer.proofs.Valid.{valid-size, valid-printer, valid-at, jet-content, content-short}
+use Rattle.printer.proofs.Orders.{denied, granted, here, past, end, holds, untold, wrapped, told-frame}
+use Rattle.printer.proofs.Part.{Stands, part-inside, part-size, part-jet, part-short, not-named, named, stands}
 use Rattle.printer.proofs.request.ask_message.Statement.{statement}
 use Rattle.printer.proofs.request.ask_message.Tie as tie
 
--- The parameters laid into the local buffer, and the message behind them.
-module _ (q m : List ℕ) {before last last′ : List ℕ} {r r′ : Bool} (e : length before ≡ 549) (f : length q ≡ 37) (h : length m ≤ 512) (a : Lays before q r last)
-    (b : Lays (midOf 37 512 last) m r′ last′) where
-  both-laid : putMid 37 512 last last′ ≡ over (q ++ m) before
-  both-laid =
-      let first : last ≡ over q before = a .buffer ∙ rw (le-leb (length q) (length before) (omega arith)) refl in
-      let room : 512 ≡ length last - 37 = omega (arith, ap length first, length-over q before (omega arith)) in
-      subst (λ (k : ℕ). Lays (midOf 37 k last) m r′ last′ → putMid 37 k last last′ ≡ over (q ++ m) before) (sym room)
-      (laid-behind 37 q m before last′ r′ last f (omega arith) first)
-      b
+parameters-long : (b : List ℕ) → length b ≡ jet-size → length (parameters (jet-of b)) ≡ 37
+unfolding jet-of counter-of
+parameters-long b full = simp (length-append, length-take, length-drop) (omega arith)
 
-  both-room : length (putMid 37 512 last last′) ≡ 549
-  both-room = ap length both-laid ∙ length-over (q ++ m) before (simp length-append (omega arith)) ∙ e
+-- The parameters laid behind three bytes, the message behind them, and the frame around both.
+module _ (q text before : List ℕ) {last last′ after : List ℕ} {r r′ : Bool} {r″ : Built} (long : length q ≡ 37) (short : length text ≤ 512) (room : 553 ≤ length before)
+    (a : Lays (midOf 3 (length before - 3) before) q r last)
+    (b : let xs = putMid 3 (length before - 3) before last in Lays (midOf 40 (length xs - 40) xs) text r′ last′)
+    (c : let xs = putMid 3 (length before - 3) before last in Wraps (putMid 40 (length xs - 40) xs last′) 0x43 (37 + length text) r″ after) where
+  three : length (take 3 before) ≡ 3
+  three = length-take-le 3 before (omega arith)
 
-  both-bytes : (k : ℕ) → length m ≡ k → take (37 + k) (putMid 37 512 last last′) ≡ q ++ m
-  both-bytes k g = ap (take (37 + k)) both-laid ∙ take-at (q ++ m) (drop (length (q ++ m)) before) (37 + k) (simp length-append (omega arith))
+  forty : length (take 3 before ++ q) ≡ 40
+  forty = simp length-append (omega (arith, three))
 
-short-at : (p : Printer) (n : ℕ) {j : Jet} → valid p ≡ true → has-jet (p .kind) n ≡ true → j ≡ jet-at p n → j .length ≤ 512
-short-at p n v h e = rw e (message-short true (jet-at p n) (valid-at p n v h))
+  first : putMid 3 (length before - 3) before last ≡ over (take 3 before ++ q) before
+  first =
+      laid-behind 3 (take 3 before) q before last r before three (omega arith)
+      (sym (ap (λ (k : ℕ). take 3 before ++ drop k before) three ∙ take-append-drop 3 before)) a
 
--- What is known of the jet.
-there : (c : tie.After-jet-at) → let a = c .before .before .before .before .before .before .args in has-jet (a .p .kind) (getD (a .d .now) 0 0) ≡ true
-there c = sym (c .before .before .has-jet .ensures) ∙ not-false (c .before .before .has-jet .result) (c .before .if1 .left)
+  then : let xs = putMid 3 (length before - 3) before last in putMid 40 (length xs - 40) xs last′ ≡ over (take 3 before ++ (q ++ text)) before
+  then =
+      laid-behind 40 (take 3 before ++ q) text before last′ r′ (putMid 3 (length before - 3) before last) forty (omega arith) first b
+      ∙ simp append-assoc
 
-filled : (c : tie.Else2) → has-message (c .before .before .jet-at .result) ≡ true
-filled c = sym (c .before .has-message .ensures) ∙ not-false (c .before .has-message .result) (c .if2 .left)
+  around : after ≡ over (frame 0x43 (q ++ text)) before
+  around = wrapped 0x43 (take 3 before) (q ++ text) before c three then (simp length-append (omega arith)) (simp length-append (omega arith)) room
 
-short : (c : tie.After-jet-at) → c .jet-at .result .length ≤ 512
-short c =
-    let s = c .before .before .before .before .before .before in
-    short-at (s .args .p) (getD (s .args .d .now) 0 0) (s .pre .2) (there c) (c .jet-at .ensures)
+jet : (c : tie.Else1) → let a = c .before .before .before .before .before .args in Stands (a .state .now) (jet-number (a .d .now)) (c .before .place-in .result)
+jet c = stands (c .before .place-in .ensures) (c .if1 .left) (valid-size _ (c .before .before .before .before .before .pre .0)) (c .before .before .before .before .shared-slice-known .given)
 
-content-long : (c : tie.After-jet-at) → length (c .jet-at .result .content) ≡ 512
-content-long c = search needs
+tested : (c : tie.After-has-message) → let a = c .before .before .before .before .before .before .before .args in c .has-message .result ≡ has-message (jet-in (printer-of (a .state .now)) (a .d .now))
+tested c = rw (part-jet (jet (c .before .before))) at (c .has-message .ensures)
 
-parameters-long : (c : tie.After-jet-at) → length (c .jet-at .result .parameters) ≡ 37
-parameters-long c = search needs
+filled : (c : tie.Else2) → let a = c .before .before .before .before .before .before .before .before .args in has-message (jet-in (printer-of (a .state .now)) (a .d .now)) ≡ true
+filled c = granted (tested (c .before)) (c .if2 .left)
 
-message-length : (c : tie.After-jet-at) → length (message (c .jet-at .result)) ≡ c .jet-at .result .length
-message-length c = length-take-le (c .jet-at .result .length) (c .jet-at .result .content) (omega (arith, short c, content-long c))
+tested-2 : (c : tie.After-has-parameters) → let a = c .before .before .before .before .before .before .before .before .before .args in c .has-parameters .result ≡ has-parameters (jet-in (printer-of (a .state .now)) (a .d .now))
+tested-2 c = rw (part-jet (jet (c .before .before .before .before))) at (c .has-parameters .ensures)
 
--- What is known of the bytes.
-abbrev jet-of : tie.After-lay2 → tie.After-jet-at
-jet-of c = c .before .before .before .before .before .before .before .before .before .before .before .before .before
-
-abbrev laid : tie.After-lay2 → List ℕ
-laid c = putMid 37 512 (c .before .before .before .before .lay .last .0) (c .lay2 .last .0)
-
-abbrev text : tie.After-lay2 → List ℕ
-text c = take (37 + jet-of c .jet-at .result .length) (laid c)
-
-room : (c : tie.After-lay2) → length (laid c) ≡ 549
-room c =
-    let g = jet-of c in
-    let j = g .jet-at .result in
-    both-room (j .parameters) (message j) refl (parameters-long g) (omega (arith, short g, message-length g)) (c .before .before .before .before .lay .ensures) (c .lay2 .ensures)
-
-said : (c : tie.After-lay2) → text c ≡ jet-of c .jet-at .result .parameters ++ message (jet-of c .jet-at .result)
-said c =
-    let g = jet-of c in
-    let j = g .jet-at .result in
-    both-bytes (j .parameters) (message j) refl (parameters-long g) (omega (arith, short g, message-length g)) (c .before .before .before .before .lay .ensures) (c .lay2 .ensures)
-    (j .length) (message-length g)
-
-text-long : (c : tie.After-lay2) → length (text c) ≡ 37 + jet-of c .jet-at .result .length
-text-long c = length-take-le (37 + jet-of c .jet-at .result .length) (laid c) (omega (arith, short (jet-of c), room c))
-
-shared-slice-read-t12 : tie.Need-shared-slice-read-t12
-shared-slice-read-t12 c = search needs
-
-has-jet-requires : tie.Need-has-jet-requires
-has-jet-requires c κs = search needs
-
-refuse-requires : tie.Need-refuse-requires
-refuse-requires c κs = search needs
-
-same-length : tie.Need-same-length
-same-length c = search needs
+place-in-requires : tie.Need-place-in-requires
+place-in-requires c κs = (valid-size _ (c .before .before .before .pre .0), c .before .before .before .pre .1)
 
 returns : tie.Need-returns
 unfolding ask-message
-returns c =
-    rw (
-      ← c .before .before .before .before .before .has-jet .ensures,
-      not-true (c .before .before .before .before .before .has-jet .result) (c .before .before .before .before .if1 .taken),
-    )
-    (c .before .before .refuse .ensures)
+returns c = untold (here (not-named (c .before .place-in .ensures) (c .if1 .taken)))
 
-jet-at-requires : tie.Need-jet-at-requires
-jet-at-requires c κs = search needs
-
-has-message-requires : tie.Need-has-message-requires
-has-message-requires c κs = search needs
-
-refuse-requires-2 : tie.Need-refuse-requires-2
-refuse-requires-2 c κs = search needs
-
-same-length-2 : tie.Need-same-length-2
-same-length-2 c = search needs
+part-jet-end : tie.Need-part-jet-end
+part-jet-end c = part-inside (jet c)
 
 returns-2 : tie.Need-returns-2
 unfolding ask-message
 returns-2 c =
-    rw (
-      there (c .before .before .before .before .before .before),
-      ← c .before .before .before .before .before .before .jet-at .ensures,
-      ← c .before .before .before .before .before .has-message .ensures,
-      not-true (c .before .before .before .before .before .has-message .result) (c .before .before .before .before .if2 .taken),
-    )
-    (c .before .before .refuse2 .ensures)
-
-refuse-requires-3 : tie.Need-refuse-requires-3
-refuse-requires-3 c κs = search needs
-
-same-length-3 : tie.Need-same-length-3
-same-length-3 c = search needs
+    let at-place-in = c .before .before .before .before in
+    untold (past (named (at-place-in .place-in .ensures) (c .before .before .before .if1 .left))
+    (here (rw (denied (tested (c .before)) (c .if2 .taken)))))
 
 returns-3 : tie.Need-returns-3
 unfolding ask-message
 returns-3 c =
-    rw (
-      there (c .before .before .before .before .before .before .before .before),
-      ← c .before .before .before .before .before .before .before .before .jet-at .ensures,
-      filled (c .before .before .before .before .before .before),
-      not-true (c .before .before .before .before .before .before .before .before .jet-at .result .set) (c .before .before .before .before .if3 .taken),
-    )
-    (c .before .before .refuse3 .ensures)
+    let at-if1 = c .before .before .before .before .before in
+    let at-place-in = at-if1 .before in
+    untold (past (named (at-place-in .place-in .ensures) (at-if1 .if1 .left))
+    (here (rw (filled (c .before .before)) (denied (tested-2 (c .before)) (c .if3 .taken)))))
 
-slice-aggregate-lay : tie.Need-slice-aggregate-lay
-slice-aggregate-lay c = search needs
-
-slice-aggregate-lay-2 : tie.Need-slice-aggregate-lay-2
-slice-aggregate-lay-2 c = search needs
-
-lay-requires : tie.Need-lay-requires
-lay-requires c κs = search needs
-
-sub-lay : tie.Need-sub-lay
-sub-lay c = search needs
-
-part-bytes-start : tie.Need-part-bytes-start
-part-bytes-start c = search needs
-
-part-bytes-end : tie.Need-part-bytes-end
-part-bytes-end c = search needs
-
-array-share-prefix-content : tie.Need-array-share-prefix-content
-array-share-prefix-content c =
-    omega (
-      arith,
-      short (c .before .before .before .before .before .before .before .before .before .before .before),
-      content-long (c .before .before .before .before .before .before .before .before .before .before .before),
-    )
-
-slice-aggregate-lay-3 : tie.Need-slice-aggregate-lay-3
-slice-aggregate-lay-3 c =
-    sym (message-length (c .before .before .before .before .before .before .before .before .before .before .before .before))
-
-lay-requires-2 : tie.Need-lay-requires-2
-lay-requires-2 c κs = search needs
-
-add-bytes : tie.Need-add-bytes
-add-bytes c =
-    omega (arith, short (c .before .before .before .before .before .before .before .before .before .before .before .before .before .before))
-
-array-share-prefix-bytes : tie.Need-array-share-prefix-bytes
-array-share-prefix-bytes c = omega (arith, short (jet-of (c .before)), room (c .before))
-
-slice-aggregate-say : tie.Need-slice-aggregate-say
-slice-aggregate-say c = sym (text-long (c .before .before))
-
-say-requires : tie.Need-say-requires
-say-requires c κs = (
-  c .before .before .before .before .before .before .before .before .before .before .before .before .before .before .before .before .before .before .before .before .before .before .pre .1,
-  omega (arith, text-long (c .before .before .before), short (jet-of (c .before .before .before))),
-)
-
-same-length-4 : tie.Need-same-length-4
-same-length-4 c = search needs
+message-requires : tie.Need-message-requires
+message-requires c κs = (part-size (jet (c .before .before .before .before .before)), part-short (jet (c .before .before .before .before .before)) (c .before .before .before .before .before .before .before .before .before .before .pre .0))
 
 returns-4 : tie.Need-returns-4
 unfolding ask-message
 returns-4 c =
-    rw (
-      there (c .before .before .before .before .before .before .before .before .before .before .before .before .before .before .before .before .before .before .before),
-      ← c .before .before .before .before .before .before .before .before .before .before .before .before .before .before .before .before .before .before .before .jet-at .ensures,
-      filled (c .before .before .before .before .before .before .before .before .before .before .before .before .before .before .before .before .before),
-      not-false (c .before .before .before .before .before .before .before .before .before .before .before .before .before .before .before .before .before .before .before .jet-at .result .set) (c .before .before .before .before .before .before .before .before .before .before .before .before .before .before .before .if3 .left),
-      ← said (c .before .before .before .before .before .before),
-    )
-    (c .before .before .say .ensures)
+    let at-lay2 = c .before .before .before .before .before .before in
+    let at-lay = at-lay2 .before .before .before .before in
+    let at-parameters = at-lay .before in
+    let at-message = at-parameters .before .before in
+    let at-if3 = at-message .before in
+    let at-has-parameters = at-if3 .before in
+    let at-if2 = at-has-parameters .before in
+    let at-if1 = at-if2 .before .before .before in
+    let at-place-in = at-if1 .before in
+    let s = at-place-in .before .before .before .before in
+    let j = jet at-if1 in
+    let q = rw (part-jet j) at (at-parameters .parameters .ensures) in
+    let text = rw (part-jet j) at (at-message .message .ensures) in
+    let long = ap length (at-parameters .parameters .ensures) ∙ parameters-long _ (part-size j) in
+    let short = content-short _ (jet-content _ _ (valid-at _ (jet-number (s .args .d .now)) (valid-printer _ (s .pre .0)) (j .least)) (filled at-if2)) in
+    told-frame 0x43 (at-parameters .parameters .result .now ++ at-message .message .result .now)
+    (holds (named (at-place-in .place-in .ensures) (at-if1 .if1 .left)) (holds (rw (filled at-if2) (granted (tested-2 at-has-parameters) (at-if3 .if3 .left))) end))
+    (ap₂ (λ (x y : List ℕ). frame 0x43 (x ++ y)) (sym q) (sym text))
+    (simp length-append (omega (arith, long)))
+    (around (at-parameters .parameters .result .now) (at-message .message .result .now) (s .args .out .now) long (rw text short) (s .pre .2) (at-lay .lay .ensures) (at-lay2 .lay2 .ensures) (c .before .before .wrap .ensures))
 
 pub ask-message-spec : {M : Type 1} → statement M
 ask-message-spec =
     tie.close
     (tie.spec
-    shared-slice-read-t12
-    has-jet-requires
-    refuse-requires
-    same-length
+    place-in-requires
     returns
-    jet-at-requires
-    has-message-requires
-    refuse-requires-2
-    same-length-2
+    (λ c. search needs)
+    (λ c. search needs)
+    (λ c. search needs)
+    part-jet-end
+    (λ c κs. search needs)
     returns-2
-    refuse-requires-3
-    same-length-3
+    (λ c κs. search needs)
     returns-3
-    slice-aggregate-lay
-    slice-aggregate-lay-2
-    lay-requires
-    sub-lay
-    part-bytes-start
-    part-bytes-end
-    array-share-prefix-content
-    slice-aggregate-lay-3
-    lay-requires-2
-    add-bytes
-    array-share-prefix-bytes
-    slice-aggregate-say
-    say-requires
-    same-length-4
+    message-requires
+    (λ c. search needs)
+    (λ c. search needs)
+    (λ c. search needs)
+    (λ c. search needs)
+    (λ c κs. search needs)
+    (λ c κs. search needs)
+    (λ c. search needs)
+    (λ c. search needs)
+    (λ c. search needs)
+    (λ c. search needs)
+    (λ c κs. search needs)
+    (λ c κs. search needs)
+    (λ c. search needs)
+    (λ c. search needs)
     returns-4)

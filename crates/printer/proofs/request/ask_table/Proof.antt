@@ -1,25 +1,19 @@
--- `printer::request::ask_table` meets its contract: what is said is the table's text.
+-- `printer::request::ask_table` meets its contract: the rule computes just the bytes of the table.
+use mathlib.Core.Path.{refl}
+use native.Mathlib.Omega.{arith}
 use borrow.Author.Needs.{needs}
+use Rattle.printer.specs.Clock.{table-text}
 use Rattle.printer.specs.Request.{ask-table}
+use Rattle.printer.proofs.Orders.{end, answer-told}
 use Rattle.printer.proofs.request.ask_table.Statement.{statement}
 use Rattle.printer.proofs.request.ask_table.Tie as tie
 
-table-text-requires : tie.Need-table-text-requires
-table-text-requires c κs = search needs
-
-slice-aggregate-say : tie.Need-slice-aggregate-say
-slice-aggregate-say c = search needs
-
-say-requires : tie.Need-say-requires
-say-requires c κs = search needs
-
-same-length : tie.Need-same-length
-same-length c = search needs
-
 returns : tie.Need-returns
-unfolding ask-table
-returns c = rw (← c .before .before .before .before .before .table-text .ensures) (c .before .before .say .ensures)
+unfolding ask-table table-text
+returns c =
+    let s = c .before .before .before .before .before .before in
+    λ p. answer-told (c .before .before .answer .ensures) end refl refl (omega arith) (s .pre)
 
 pub ask-table-spec : {M : Type 1} → statement M
 ask-table-spec =
-    tie.close (tie.spec table-text-requires slice-aggregate-say say-requires same-length returns)
+    tie.close (tie.spec (λ c. search needs) (λ c κs. search needs) (λ c. search needs) (λ c. search needs) returns)

@@ -1,5 +1,5 @@
--- `printer::clock::Clock::is_real` meets its contract. Its tests are those of the rule, in its order, each bound by one test.
-use Rattle.frame.proofs.Laws.{tests}
+-- `printer::clock::Clock::is_real` meets its contract. Its tests are those of the rule, in its order, and `is_date` tells the last.
+use Rattle.frame.proofs.Ground.{tests}
 use Rattle.printer.specs.Clock.{is-real}
 use borrow.Author.Needs.{needs}
 use Rattle.printer.proofs.clock.Clock.is_real.Statement.{statement}
@@ -19,37 +19,7 @@ returns-3 c = search tests
 
 returns-4 : tie.Need-returns-4
 unfolding is-real
-returns-4 c = search tests
-
-returns-5 : tie.Need-returns-5
-unfolding is-real
-returns-5 c = search tests
-
-returns-6 : tie.Need-returns-6
-unfolding is-real
-returns-6 c = search tests
-
-days-in-requires : tie.Need-days-in-requires
-days-in-requires c κs = search needs
-
-returns-7 : tie.Need-returns-7
-unfolding is-real
-returns-7 c = rw (← c .before .before .days-in .ensures) (search tests)
-
-returns-8 : tie.Need-returns-8
-unfolding is-real
-returns-8 c = rw (← c .before .before .before .days-in .ensures) (search tests)
+returns-4 c = rw (← c .is-date .ensures) (search tests)
 
 pub is-real-spec : {M : Type 1} → statement M
-is-real-spec =
-    tie.close
-    (tie.spec
-    returns
-    returns-2
-    returns-3
-    returns-4
-    returns-5
-    returns-6
-    days-in-requires
-    returns-7
-    returns-8)
+is-real-spec = tie.close (tie.spec returns returns-2 returns-3 (λ c κs. search needs) returns-4)

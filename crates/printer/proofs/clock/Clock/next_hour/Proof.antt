@@ -1,23 +1,17 @@
 -- `printer::clock::Clock::next_hour` meets its contract. Its one test is the rule's, and behind it the next larger part moves on.
-use Rattle.frame.proofs.Laws.{tests}
+use Rattle.frame.proofs.Ground.{tests}
 use Rattle.printer.specs.Clock.{next-hour}
 use borrow.Author.Needs.{needs}
 use Rattle.printer.proofs.clock.Clock.next_hour.Statement.{statement}
 use Rattle.printer.proofs.clock.Clock.next_hour.Tie as tie
 
-add-t4 : tie.Need-add-t4
-add-t4 c = search needs
-
 returns : tie.Need-returns
 unfolding next-hour
 returns c = search tests
 
-next-day-requires : tie.Need-next-day-requires
-next-day-requires c κs = search needs
-
 returns-2 : tie.Need-returns-2
 unfolding next-hour
-returns-2 c = rw (← c .next-day .ensures) (search tests)
+returns-2 c = rw (← c .next-date .ensures) (search tests)
 
 pub next-hour-spec : {M : Type 1} → statement M
-next-hour-spec = tie.close (tie.spec add-t4 returns next-day-requires returns-2)
+next-hour-spec = tie.close (tie.spec (λ c. search needs) returns (λ c κs. search needs) returns-2)

@@ -1,23 +1,17 @@
 -- `printer::clock::Clock::next_minute` meets its contract. Its one test is the rule's, and behind it the next larger part moves on.
-use Rattle.frame.proofs.Laws.{tests}
+use Rattle.frame.proofs.Ground.{tests}
 use Rattle.printer.specs.Clock.{next-minute}
 use borrow.Author.Needs.{needs}
 use Rattle.printer.proofs.clock.Clock.next_minute.Statement.{statement}
 use Rattle.printer.proofs.clock.Clock.next_minute.Tie as tie
 
-add-t4 : tie.Need-add-t4
-add-t4 c = search needs
-
 returns : tie.Need-returns
 unfolding next-minute
 returns c = search tests
-
-next-hour-requires : tie.Need-next-hour-requires
-next-hour-requires c κs = search needs
 
 returns-2 : tie.Need-returns-2
 unfolding next-minute
 returns-2 c = rw (← c .next-hour .ensures) (search tests)
 
 pub next-minute-spec : {M : Type 1} → statement M
-next-minute-spec = tie.close (tie.spec add-t4 returns next-hour-requires returns-2)
+next-minute-spec = tie.close (tie.spec (λ c. search needs) returns (λ c κs. search needs) returns-2)

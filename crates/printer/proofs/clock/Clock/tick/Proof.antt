@@ -1,23 +1,17 @@
 -- `printer::clock::Clock::tick` meets its contract. Its one test is the rule's, and behind it the next larger part moves on.
-use Rattle.frame.proofs.Laws.{tests}
+use Rattle.frame.proofs.Ground.{tests}
 use Rattle.printer.specs.Clock.{tick}
 use borrow.Author.Needs.{needs}
 use Rattle.printer.proofs.clock.Clock.tick.Statement.{statement}
 use Rattle.printer.proofs.clock.Clock.tick.Tie as tie
 
-add-t4 : tie.Need-add-t4
-add-t4 c = search needs
-
 returns : tie.Need-returns
 unfolding tick
 returns c = search tests
-
-next-minute-requires : tie.Need-next-minute-requires
-next-minute-requires c κs = search needs
 
 returns-2 : tie.Need-returns-2
 unfolding tick
 returns-2 c = rw (← c .next-minute .ensures) (search tests)
 
 pub tick-spec : {M : Type 1} → statement M
-tick-spec = tie.close (tie.spec add-t4 returns next-minute-requires returns-2)
+tick-spec = tie.close (tie.spec (λ c. search needs) returns (λ c κs. search needs) returns-2)

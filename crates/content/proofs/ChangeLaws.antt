@@ -1,0 +1,188 @@
+-- A change of characters at character positions keeps verdict, marks and outline, and an accepted edit and an update are such changes and
+-- change no other bytes.
+use Prim.Native.Nat.{ℕ, zero, suc, _+_, _-_, _≤_, _<_}
+use mathlib.Core.Bool.{Bool, true, false}
+use mathlib.Core.List.{List, [], _∷_, _++_, append-nil}
+use mathlib.Core.Path.{_≡_, refl, ap, _∙_}
+use native.Mathlib.Nat.{add-zero, suc-add, zero-add, zero-sub}
+use native.Mathlib.Omega.{arith}
+use native.Mathlib.Numerals.{one-add}
+use lib.ListN.{length, take, drop, getD, length-append, length-take, length-drop, take-append-drop, List·getD-append}
+use lib.Seq.{drop-nil, length-take-le, getD-append-add, getD-take, getD-drop}
+use Rattle.frame.specs.Ground.{unless}
+use Rattle.content.specs.Byte.{is-character, all-characters}
+use Rattle.content.specs.Machine.{Mode, start, step}
+use Rattle.content.specs.Content.{is-content, verdict}
+use Rattle.content.specs.Position.{marks, mark-of, is-position, is-field-position, field-positions-from}
+use Rattle.content.specs.Edit.{addressed, edited, replaced}
+use Rattle.content.specs.Update.{fitted, next-of, rest-of, laid}
+use Rattle.content.specs.ChangeLaws.{Changed, none, kept, changed, Kept, ChangeKeeps, EditChanges, EditStaysContent, EditLands, EditElsewhere, UpdateChanges, UpdateStaysContent, at-fields, UpdateLands, UpdateElsewhere, EditKeepsLength, UpdateKeepsLength}
+use Rattle.content.specs.Tree.{tree-of}
+use Rattle.content.specs.declared.position.Mark.{Mark}
+use Rattle.content.specs.declared.position.Mark.the-variants.{Structure, Character, FieldCharacter}
+use Rattle.content.specs.declared.edit.Edited.the-variants.{Done, NoPosition, NoCharacter}
+use Rattle.frame.proofs.Ground.{never, both-true, pick-case}
+use Rattle.content.proofs.Changes.{length-same, marks-same, no-structure, positions-same, read-same, rest-alike}
+use Rattle.content.proofs.Laying.{fitted-next}
+
+pub change-keeps : ChangeKeeps
+unfolding verdict tree-of
+change-keeps s t h =
+    record {
+      length-kept = length-same h;
+      verdict-kept = read-same 0 h;
+      marks-kept = marks-same h;
+      field-positions-kept = positions-same h;
+      outline-kept = (rest-alike h) .lines;
+    }
+
+-- A content so changed stays one.
+stays-content : (s t : List ℕ) → Changed start s t → is-content s ≡ true → (is-content t ≡ true) × Kept s t
+unfolding is-content
+stays-content s t h e =
+    let k = change-keeps s t h in
+    (rw (k .length-kept, k .verdict-kept) e, k)
+
+nothing-changed : (m : Mode) (s : List ℕ) → Changed m s s
+nothing-changed m [] = none
+nothing-changed m (b ∷ s) = kept (nothing-changed (step m b) s)
+
+-- An edit with address 0, from any mode on.
+laid-over : (m : Mode) (s symbols : List ℕ) → addressed symbols (marks m s) ≡ true → all-characters symbols ≡ true
+    → Changed m s (symbols ++ drop (length symbols) s)
+laid-over m s [] p q = nothing-changed m s
+laid-over m [] (x ∷ xs) p q = never p
+laid-over m (b ∷ s) (x ∷ xs) p q =
+    let here = both-true (is-position (mark-of m b)) (addressed xs (marks (step m b) s)) p in
+    let good = both-true (is-character x) (all-characters xs) q in
+    changed (here .0) (good .0) (laid-over (step m b) s xs (here .1) (good .1))
+
+replaced-changes : (m : Mode) (s : List ℕ) (address : ℕ) (symbols : List ℕ)
+    → addressed symbols (drop address (marks m s)) ≡ true → all-characters symbols ≡ true → Changed m s (replaced s address symbols)
+replaced-changes m s zero symbols p q = rw zero-add (laid-over m s symbols p q)
+replaced-changes m [] (suc a) [] p q = rw drop-nil none
+replaced-changes m [] (suc a) (x ∷ xs) p q = never p
+replaced-changes m (b ∷ s) (suc a) symbols p q = rw suc-add (kept (replaced-changes (step m b) s a symbols p q))
+
+-- What the tests of an accepted edit came to.
+accepted : (x y : Bool) → unless x NoPosition (unless y NoCharacter Done) ≡ Done → (x ≡ true) × (y ≡ true)
+accepted true true e = (refl, refl)
+accepted true false e = never (cc)
+accepted false y e = never (cc)
+
+pub edit-changes : EditChanges
+unfolding edited
+edit-changes s address symbols e =
+    let h = accepted (addressed symbols (drop address (marks start s))) (all-characters symbols) e in
+    replaced-changes start s address symbols (h .0) (h .1)
+
+pub edit-stays-content : EditStaysContent
+edit-stays-content s address symbols c e = stays-content s _ (edit-changes s address symbols e) c
+
+pub edit-keeps-length : EditKeepsLength
+edit-keeps-length s address symbols e = (change-keeps s _ (edit-changes s address symbols e)) .length-kept
+
+-- Where the length stays, symbols lie within it.
+symbols-fit :
+    (s : List ℕ) (a : ℕ) (xs : List ℕ) → length (replaced s a xs) ≡ length s → 1 ≤ length xs → a + length xs ≤ length s
+symbols-fit s a xs e h = omega (arith, simp (length-append, length-take, length-drop) at e)
+
+-- No symbols replace nothing, wherever they are addressed to.
+nothing-replaced : (s : List ℕ) (a : ℕ) → replaced s a [] ≡ s
+nothing-replaced s a = rw (add-zero, append-nil (take a s)) (take-append-drop a s)
+
+module _ (s : List ℕ) (a : ℕ) (xs : List ℕ) (fits : a + length xs ≤ length s) where
+  front : length (take a s) ≡ a
+  front = length-take-le a s (omega arith)
+
+  front-and-symbols : length (take a s ++ xs) ≡ a + length xs
+  front-and-symbols = rw (length-append, front)
+
+  at-symbol : (k : ℕ) → k < length xs → getD (replaced s a xs) (a + k) 0 ≡ getD xs k 0
+  at-symbol k h =
+      List·getD-append (take a s ++ xs) _ 0 (a + k) (omega (arith, front-and-symbols)) ∙ rw front at (getD-append-add (take a s) xs k 0)
+
+  before-symbols : (i : ℕ) → i < a → getD (replaced s a xs) i 0 ≡ getD s i 0
+  before-symbols i h =
+      List·getD-append (take a s ++ xs) _ 0 i (omega (arith, front-and-symbols))
+      ∙ List·getD-append (take a s) xs 0 i (omega (arith, front))
+      ∙ getD-take a s i 0 h
+
+  behind-symbols : (i : ℕ) → a + length xs ≤ i → getD (replaced s a xs) i 0 ≡ getD s i 0
+  behind-symbols i h =
+      let n = a + length xs in
+      let e : i ≡ n + (i - n) = omega arith in
+      rw e (rw front-and-symbols at (getD-append-add (take a s ++ xs) (drop n s) (i - n) 0) ∙ getD-drop n s (i - n) 0)
+
+pub edit-lands : EditLands
+edit-lands s address symbols k e h =
+    at-symbol s address symbols (symbols-fit s address symbols (edit-keeps-length s address symbols e) (omega arith)) k h
+
+pub edit-elsewhere : EditElsewhere
+edit-elsewhere s address [] i e = rw nothing-replaced ((λ h. refl), (λ h. refl))
+edit-elsewhere s address (x ∷ xs) i e =
+    let fits = symbols-fit s address (x ∷ xs) (edit-keeps-length s address (x ∷ xs) e) (omega arith) in
+    (before-symbols s address (x ∷ xs) fits i, behind-symbols s address (x ∷ xs) fits i)
+
+field-is-position : (k : Mark) → is-field-position k ≡ true → is-position k ≡ true
+field-is-position Structure e = e
+field-is-position Character e = never e
+field-is-position FieldCharacter e = e
+
+next-is-character : (text : List ℕ) → all-characters text ≡ true → is-character (next-of text) ≡ true
+unfolding is-character
+next-is-character [] e = refl
+next-is-character (c ∷ text) e = (both-true (is-character c) (all-characters text) e) .0
+
+rest-are-characters : (text : List ℕ) → all-characters text ≡ true → all-characters (rest-of text) ≡ true
+rest-are-characters [] e = refl
+rest-are-characters (c ∷ text) e = (both-true (is-character c) (all-characters text) e) .1
+
+laid-changes : (m : Mode) (s text : List ℕ) → all-characters text ≡ true → Changed m s (laid text m s)
+laid-changes m [] text e = none
+laid-changes m (b ∷ s) text e =
+    let more = laid-changes (step m b) s (rest-of text) (rest-are-characters text e) in
+    pick-case (λ (t : List ℕ). Changed m (b ∷ s) t) (is-field-position (mark-of m b)) _ _
+    (λ p. changed (field-is-position (mark-of m b) p) (next-is-character text e) more)
+    (λ p. kept (laid-changes (step m b) s text e))
+
+pub update-changes : UpdateChanges
+update-changes s text e = laid-changes start s text e
+
+pub update-stays-content : UpdateStaysContent
+update-stays-content s text c e = stays-content s _ (update-changes s text e) c
+
+laid-lands :
+    (m : Mode) (s text : List ℕ) → all-characters text ≡ true → at-fields m (laid text m s) ≡ fitted (field-positions-from m s) text
+laid-lands m [] text e = rw zero-sub
+laid-lands m (b ∷ s) text e =
+    pick-case (λ (t : List ℕ). at-fields m t ≡ fitted (field-positions-from m (b ∷ s)) text) (is-field-position (mark-of m b)) _ _
+    (λ p.
+    let same = no-structure m b (next-of text) (field-is-position (mark-of m b) p) (next-is-character text e) in
+    rw (same .0, same .1, p, one-add, fitted-next, laid-lands (step m b) s (rest-of text) (rest-are-characters text e)))
+    (λ p. rw (p, zero-add) (laid-lands (step m b) s text e))
+
+pub update-lands : UpdateLands
+update-lands s text e = laid-lands start s text e
+
+laid-length : (m : Mode) (s text : List ℕ) → length (laid text m s) ≡ length s
+laid-length m [] text = refl
+laid-length m (b ∷ s) text =
+    pick-case (λ (t : List ℕ). length t ≡ suc (length s)) (is-field-position (mark-of m b)) _ _
+    (λ p. ap suc (laid-length (step m b) s (rest-of text)))
+    (λ p. ap suc (laid-length (step m b) s text))
+
+pub update-keeps-length : UpdateKeepsLength
+update-keeps-length s text = laid-length start s text
+
+laid-elsewhere : (m : Mode) (s text : List ℕ) (i : ℕ) → is-field-position (getD (marks m s) i Structure) ≡ false
+    → getD (laid text m s) i 0 ≡ getD s i 0
+laid-elsewhere m [] text i e = refl
+laid-elsewhere m (b ∷ s) text zero e = rw e
+laid-elsewhere m (b ∷ s) text (suc i) e =
+    pick-case (λ (t : List ℕ). getD t (suc i) 0 ≡ getD s i 0) (is-field-position (mark-of m b)) _ _
+    (λ p. laid-elsewhere (step m b) s (rest-of text) i e)
+    (λ p. laid-elsewhere (step m b) s text i e)
+
+pub update-elsewhere : UpdateElsewhere
+update-elsewhere s text i e = laid-elsewhere start s text i e

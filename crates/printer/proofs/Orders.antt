@@ -1,0 +1,93 @@
+-- An order: what a test that fails and what tests that all hold say of it.
+use Prim.Native.Nat.{ℕ, _+_, _≤_}
+use mathlib.Core.Bool.{Bool, true, false, not}
+use mathlib.Core.List.{List, [], _∷_, _++_, append-assoc}
+use mathlib.Core.Path.{_≡_, refl, sym, _∙_, ap, ap₂}
+use native.Mathlib.Omega.{arith}
+use borrow.Author.Tests.{not-true, not-false}
+use lib.ListN.{length, take, drop, length-append}
+use lib.Seq.{take-at, drop-at}
+use Rattle.frame.specs.Ground.{Test, test, all, over}
+use Rattle.frame.specs.Wire.{head-size}
+use Rattle.frame.specs.Build as build
+use Rattle.frame.specs.Build.{frame, Answers, Wraps}
+use Rattle.frame.specs.declared.build.Built.{Built}
+use Rattle.frame.proofs.Ground.{length-over, over-under}
+use Rattle.frame.proofs.Told.{frame-length, answered-fits, wrap-fits}
+use Rattle.printer.specs.State.{bytes-of}
+use Rattle.printer.specs.Order.{Order, given, Obeys}
+use Rattle.printer.specs.Answer.{Tells}
+
+-- ---- A test that the code makes with `if !..`: its call tells the rule's value.
+pub denied : {r b : Bool} → r ≡ b → not r ≡ true → b ≡ false
+denied {r} e t = sym e ∙ not-true r t
+
+pub granted : {r b : Bool} → r ≡ b → not r ≡ false → b ≡ true
+granted {r} e t = sym e ∙ not-false r t
+
+-- ---- Tests in a row: one fails and those before it hold, or all hold.
+pub data Fails : List Test → ℕ → Type 0 where
+  here : {b : Bool} {n : ℕ} {ts : List Test} → b ≡ false → Fails (test b n ∷ ts) n
+  past : {b : Bool} {n k : ℕ} {ts : List Test} → b ≡ true → Fails ts k → Fails (test b n ∷ ts) k
+
+pub data Passes : List Test → Type 0 where
+  end : Passes []
+  holds : {b : Bool} {n : ℕ} {ts : List Test} → b ≡ true → Passes ts → Passes (test b n ∷ ts)
+
+fails-number : {ts : List Test} {n : ℕ} → Fails ts n → n ≡ given ts
+fails-number (here e) = rw e
+fails-number (past e f) = rw e (fails-number f)
+
+fails-all : {ts : List Test} {n : ℕ} → Fails ts n → all ts ≡ false
+fails-all (here e) = rw e
+fails-all (past e f) = rw e (fails-all f)
+
+passes-number : {ts : List Test} → Passes ts → 0 ≡ given ts
+passes-number end = refl
+passes-number (holds e f) = rw e (passes-number f)
+
+passes-all : {ts : List Test} → Passes ts → all ts ≡ true
+passes-all end = refl
+passes-all (holds e f) = rw e (passes-all f)
+
+-- ---- An order on the state: refused it gives the number and leaves the bytes, obeyed it gives 0 and leaves those of the state behind it.
+pub refused : {o : Order} {m : List ℕ} {n : ℕ} → Fails (o .tests) n → Obeys o m n m
+refused f = record { number = fails-number f; state = rw (fails-all f) }
+
+pub obeyed : {o : Order} {m : List ℕ} {m′ : List ℕ} → Passes (o .tests) → m′ ≡ bytes-of (o .after) → Obeys o m 0 m′
+obeyed f e = record { number = passes-number f; state = rw (passes-all f) e }
+
+-- ---- An order that asks for a frame: refused it gives the number and writes nothing, else the frame stands at the buffer's front.
+pub untold : {o : Order} {before : List ℕ} {n : ℕ} → Fails (o .tests) n → Tells o before (record { number = n; size = 0 }) before
+untold f = record { number = fails-number f; size = rw (fails-all f); bytes = rw (fails-all f) }
+
+pub told-frame : {o : Order} (identifier : ℕ) (d : List ℕ) {before after : List ℕ} {size : ℕ} → Passes (o .tests) → o .frame ≡ frame identifier d → size ≡ length d + 4
+    → after ≡ over (frame identifier d) before → Tells o before (record { number = 0; size = size }) after
+told-frame identifier d f e s w =
+    record {
+      number = passes-number f;
+      size = s ∙ rw (passes-all f, e) (sym (frame-length identifier d));
+      bytes = rw (passes-all f, e) w;
+    }
+
+-- The builder writes the frame, since it fits: of data that it is given, and of data that stands behind a head's place already.
+pub answer-told : {o : Order} {identifier : ℕ} {d before after : List ℕ} {r : Built} {size : ℕ} → Answers before identifier d r after → Passes (o .tests)
+    → o .frame ≡ frame identifier d → size ≡ length d + 4 → length d ≤ 549 → 553 ≤ length before → Tells o before (record { number = 0; size = size }) after
+answer-told {identifier = identifier} {d = d} {before = before} a f e s short room =
+    let fits = a .answer ∙ answered-fits (length before) (length d) (omega arith) (omega arith) in
+    told-frame identifier d f e s (a .buffer ∙ ap (λ (x : Built). over (build.bytes-of x identifier d) before) fits)
+
+pub wrapped : (identifier : ℕ) (w d before : List ℕ) {xs after : List ℕ} {n : ℕ} {r : Built} → Wraps xs identifier n r after → length w ≡ head-size
+    → xs ≡ over (w ++ d) before → n ≡ length d → length d ≤ 549 → 553 ≤ length before → after ≡ over (frame identifier d) before
+wrapped identifier w d before {xs} {n = n} p three e k short room =
+    let rest : List ℕ = drop (length (w ++ d)) before in
+    let size : length (w ++ d) ≡ head-size + length d = simp length-append (omega arith) in
+    let same : length xs ≡ length before = ap length e ∙ length-over (w ++ d) before (omega arith) in
+    let there : take n (drop head-size xs) ≡ d =
+    ap (λ (l : List ℕ). take n (drop head-size l)) (e ∙ append-assoc w d rest)
+    ∙ ap (take n) (drop-at w (d ++ rest) head-size three)
+    ∙ take-at d rest n (sym k)
+    in
+    wrap-fits p (omega arith) (omega arith) .1
+    ∙ ap₂ (λ (x y : List ℕ). over (frame identifier x) y) there e
+    ∙ over-under (frame identifier d) (w ++ d) before (omega (arith, frame-length identifier d))

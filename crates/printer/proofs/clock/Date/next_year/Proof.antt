@@ -1,0 +1,17 @@
+-- `printer::clock::Date::next_year` meets its contract. Its one test is the rule's.
+use Rattle.frame.proofs.Ground.{tests}
+use Rattle.printer.specs.Clock.{next-year}
+use borrow.Author.Needs.{needs}
+use Rattle.printer.proofs.clock.Date.next_year.Statement.{statement}
+use Rattle.printer.proofs.clock.Date.next_year.Tie as tie
+
+returns : tie.Need-returns
+unfolding next-year
+returns c = search tests
+
+returns-2 : tie.Need-returns-2
+unfolding next-year
+returns-2 c = search tests
+
+pub next-year-spec : {M : Type 1} → statement M
+next-year-spec = tie.close (tie.spec (λ c. search needs) returns returns-2)

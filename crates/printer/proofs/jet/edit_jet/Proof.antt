@@ -1,0 +1,55 @@
+-- `printer::jet::edit_jet` meets its contract: each answer of the edit gives its number, and the message changes where it is done.
+use Prim.Native.Nat.{_+_, _-_}
+use mathlib.Core.Path.{_≡_}
+use borrow.Author.Needs.{needs}
+use borrow.Rule.Slice.PartMut.{putMid}
+use Rattle.content.specs.Edit.{number}
+use Rattle.content.specs.declared.edit.Edited.{Edited}
+use Rattle.printer.specs.Jet.{jet-of}
+use Rattle.printer.specs.Change.{EditsJet}
+use Rattle.printer.proofs.Jets.{edited-left}
+use Rattle.printer.proofs.jet.edit_jet.Statement.{statement}
+use Rattle.printer.proofs.jet.edit_jet.Tie as tie
+
+-- What each answer leaves, when the message is back.
+left : (c : tie.After-slice-known2) {x : Edited} → c .before .before .edit .result ≡ x
+    → let entry = c .before .before .before .before .before .before .before .before in
+    EditsJet (jet-of (entry .args .jet .now)) (entry .args .address) (entry .args .symbols .now) (entry .args .jet .now) (number x)
+    (putMid 2 (2 + c .before .before .before .before .message-length .result - 2) (entry .args .jet .now) (c .before .before .edit .last .0))
+left c told =
+    let entry = c .before .before .before .before .before .before .before .before in
+    edited-left (entry .args .jet .now) (entry .pre .0) (c .before .before .before .before .before .before .before .slice-known .given)
+    (c .before .before .before .before .message-length .ensures)
+    (entry .pre .1)
+    (c .before .before .edit .kept .0)
+    (c .before .before .edit .ensures)
+    told
+
+returns : tie.Need-returns
+returns c = left (c .before .before) (c .enum-told .given .1)
+
+returns-2 : tie.Need-returns-2
+returns-2 c = left (c .before .before) (c .enum-told2 .given .1)
+
+returns-3 : tie.Need-returns-3
+returns-3 c = left (c .before .before) (c .enum-told3 .given .1)
+
+pub edit-jet-spec : {M : Type 1} → statement M
+edit-jet-spec =
+    tie.close
+    (tie.spec
+    (λ c κs. search needs)
+    (λ c. search needs)
+    (λ c. search needs)
+    (λ c. search needs)
+    (λ c. search needs)
+    (λ c κs. search needs)
+    (λ c. search needs)
+    (λ c. search needs)
+    (λ c. search needs)
+    (λ c. search needs)
+    returns
+    (λ c. search needs)
+    returns-2
+    (λ c. search needs)
+    returns-3)

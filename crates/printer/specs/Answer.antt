@@ -1,0 +1,38 @@
+-- What the functions that answer promise: a silent number, the first byte of an answer, and a frame behind it.
+use Prim.Native.Nat.{ℕ, _+_}
+use mathlib.Core.List.{List, []}
+use mathlib.Core.Path.{_≡_}
+use lib.Dec.{eqb}
+use lib.ListN.{length, set, replicate}
+use Rattle.frame.specs.Ground.{pick, all, over}
+use Rattle.printer.specs.Order.{Order, given}
+use Rattle.printer.specs.declared.answer.Answered.{Answered}
+use Rattle.printer.specs.declared.request.Told.{Told}
+
+-- 01, On the wire: "ACK is 06h, NACK 15h."
+abbrev pub ack : ℕ
+ack = 0x06
+
+abbrev pub nack : ℕ
+nack = 0x15
+
+abbrev pub none : List ℕ
+none = replicate 4 0
+
+-- Numbers 1 to 3.
+pub record Silent (number : ℕ) (r : Answered) : Type 0 where
+  pub answered : r ≡ record { number = number; consumed = 0; answer = 0; strips = none }
+
+-- 06h for 0, before a frame of so many bytes; 15h alone for any other number.
+pub record Settles (number consumed frame : ℕ) (before : List ℕ) (r : Answered) (after : List ℕ) : Type 0 where
+  pub answered : r ≡ record { number = number; consumed = consumed; answer = pick (eqb number 0) (frame + 1) 1; strips = none }
+  pub bytes : after ≡ set before 0 (pick (eqb number 0) ack nack)
+
+-- The frame that an order tells, where it passes its tests.
+abbrev pub told : Order → List ℕ
+told o = pick (all (o .tests)) (o .frame) []
+
+pub record Tells (o : Order) (before : List ℕ) (r : Told) (after : List ℕ) : Type 0 where
+  pub number : r .number ≡ given (o .tests)
+  pub size : r .size ≡ length (told o)
+  pub bytes : after ≡ over (told o) before

@@ -1,0 +1,49 @@
+-- What is true of every order: it is refused at its first test that fails and then changes nothing, or done; and a valid state stays
+-- valid.
+use Prim.Native.Nat.{ℕ, _≤_}
+use mathlib.Core.Bool.{Bool, true, false}
+use mathlib.Core.List.{List, [], _∷_}
+use mathlib.Core.Path.{_≡_}
+use lib.Dec.{leb}
+use lib.ListN.{length}
+use Rattle.frame.specs.Ground.{Test, both, all}
+use Rattle.printer.specs.State.{Printer, valid}
+use Rattle.printer.specs.Order.{Order, given}
+use Rattle.printer.specs.Change.{set-message, set-parameters, set-both, edit-message, update-fields}
+use Rattle.printer.specs.Receive.{Outcome, obeyed, done, refusal, order}
+
+-- 01, Numbers: "Checked in this order; the first that applies is given, and none otherwise", whatever the order is.
+abbrev pub ObeyedDone : Type 0
+ObeyedDone = (p : Printer) (o : Order) (consumed : ℕ) → all (o .tests) ≡ true → obeyed p o consumed ≡ done o consumed
+
+abbrev pub ObeyedRefused : Type 0
+ObeyedRefused =
+    (p : Printer) (o : Order) (consumed : ℕ) →
+    all (o .tests) ≡ false →
+    obeyed p o consumed ≡ refusal p (given (o .tests)) consumed
+
+-- The numbers of an order's tests are those of document 01 that a frame or an update can get, 8 and later: so 0 is given exactly where
+-- all tests hold.
+abbrev pub numbered : List Test → Bool
+numbered [] = true
+numbered (t ∷ ts) = both (leb 8 (t .otherwise .number)) (numbered ts)
+
+abbrev pub OrdersNumbered : Type 0
+OrdersNumbered = (p : Printer) (identifier : ℕ) (d : List ℕ) → numbered (order p identifier d .tests) ≡ true
+
+abbrev pub GivenExactly : Type 0
+GivenExactly =
+    (tests : List Test) → numbered tests ≡ true →
+    (all tests ≡ true → given tests ≡ 0) × (all tests ≡ false → 8 ≤ given tests)
+
+-- What passes its tests leads from a valid state to a valid state, and keeps the type and the number of jets.
+pub record Keeps (p : Printer) (o : Order) : Type 0 where
+  pub stays-valid : valid p ≡ true → all (o .tests) ≡ true → valid (o .after) ≡ true
+  pub model : o .after .model ≡ p .model
+  pub as-many : length (o .after .jets) ≡ length (p .jets)
+
+abbrev pub OrderKeeps : Type 0
+OrderKeeps = (p : Printer) (identifier : ℕ) (d : List ℕ) → length (p .jets) ≡ 4 → Keeps p (order p identifier d)
+
+abbrev pub UpdateKeeps : Type 0
+UpdateKeeps = (p : Printer) (text : List ℕ) → length (p .jets) ≡ 4 → Keeps p (update-fields p text)

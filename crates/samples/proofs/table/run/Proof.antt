@@ -1,0 +1,77 @@
+-- `samples::table::run` meets its contract: a line ends behind its start, so that each turn is a place further, and no call changes how many bytes a buffer has.
+use Prim.Native.Nat.{_-_}
+use mathlib.Core.Path.{_≡_}
+use borrow.Author.Needs.{needs}
+use lib.ListN.{length}
+use Rattle.samples.proofs.table.run.Statement.{statement}
+use Rattle.samples.proofs.table.run.Tie as tie
+
+abbrev Inv-loop : tie.InvT-loop
+Inv-loop s state₀ kept₀ answer₀ strips₀ rooms₀ at₀ state kept answer strips rooms at =
+    (2304 ≡ length state) × (2304 ≡ length kept) × (608 ≡ length answer) × (6400 ≡ length strips)
+
+abbrev μ-loop : tie.MeasureT-loop
+μ-loop s state₀ kept₀ answer₀ strips₀ rooms₀ at₀ state kept answer strips rooms at = length s - at
+
+loop-holds : tie.Need-loop-holds Inv-loop μ-loop
+loop-holds c = search needs
+
+line-end-requires : tie.Need-line-end-requires Inv-loop μ-loop
+line-end-requires c κs = search needs
+
+sub-turn : tie.Need-sub-turn Inv-loop μ-loop
+sub-turn c = search needs
+
+part-turn-start : tie.Need-part-turn-start Inv-loop μ-loop
+part-turn-start c = search needs
+
+part-turn-end : tie.Need-part-turn-end Inv-loop μ-loop
+part-turn-end c = search needs
+
+slice-aggregate-turn : tie.Need-slice-aggregate-turn Inv-loop μ-loop
+slice-aggregate-turn c = search needs
+
+slice-aggregate-turn-2 : tie.Need-slice-aggregate-turn-2 Inv-loop μ-loop
+slice-aggregate-turn-2 c = search needs
+
+slice-aggregate-turn-3 : tie.Need-slice-aggregate-turn-3 Inv-loop μ-loop
+slice-aggregate-turn-3 c = search needs
+
+slice-aggregate-turn-4 : tie.Need-slice-aggregate-turn-4 Inv-loop μ-loop
+slice-aggregate-turn-4 c = search needs
+
+turn-requires : tie.Need-turn-requires Inv-loop μ-loop
+turn-requires c κs = search needs
+
+add-at : tie.Need-add-at Inv-loop μ-loop
+add-at c = search needs
+
+loop-less : tie.Need-loop-less Inv-loop μ-loop
+loop-less c = search needs
+
+loop-again : tie.Need-loop-again Inv-loop μ-loop
+loop-again c = search needs
+
+returns : tie.Need-returns Inv-loop μ-loop
+returns c = search needs
+
+pub run-spec : {M : Type 1} → statement M
+run-spec =
+    tie.close
+    (tie.spec
+    Inv-loop
+    μ-loop
+    loop-holds
+    line-end-requires
+    sub-turn
+    part-turn-start
+    part-turn-end
+    slice-aggregate-turn
+    slice-aggregate-turn-2
+    slice-aggregate-turn-3
+    slice-aggregate-turn-4
+    turn-requires
+    add-at
+    loop-less
+    loop-again
+    returns)

@@ -1,0 +1,192 @@
+// The calls of the box, each with its outcome.
+use crate::show::UNWRITTEN;
+use crate::show::bytes;
+use crate::show::count;
+use crate::show::front;
+use crate::show::number;
+use crate::show::text;
+use content::test::test;
+use frame::build::Built;
+use frame::build::build;
+use frame::build::lay;
+use printer::answer::Answered;
+use printer::call::fresh;
+use printer::call::set_clock;
+use printer::call::tick;
+use printer::clock::Clock;
+use printer::receive::receive;
+
+// The room for a state, and what of it and of the buffers is handed in.
+pub(crate) const ROOM: usize = 2_304;
+
+pub(crate) struct Rooms {
+    pub state: usize,
+    pub answer: usize,
+    pub strips: usize,
+}
+
+// More than any buffer that the table asks for.
+pub(crate) const ANSWERS: usize = 608;
+
+pub(crate) const STRIPS: usize = 6_400;
+
+// A number that the box never gives: the table asks for more room than there is.
+fn impossible() -> Answered {
+    Answered {
+        number: 99,
+        consumed: 0,
+        answer: 0,
+        strips: [0; 4],
+    }
+}
+
+// The box, with so much of the state and of the buffers as the rooms say.
+fn handed_in(
+    state: &mut [u8],
+    s: &[u8],
+    answer: &mut [u8],
+    strips: &mut [u8],
+    rooms: Rooms,
+) -> Answered {
+    let n = rooms.state;
+    let a = rooms.answer;
+    let b = rooms.strips;
+    if state.len() < n {
+        return impossible();
+    }
+    if answer.len() < a {
+        return impossible();
+    }
+    if strips.len() < b {
+        return impossible();
+    }
+    receive(&mut state[0..n], s, &mut answer[0..a], &mut strips[0..b])
+}
+
+// A jet's strip of so many bytes, from a place of the strip buffer on; hands back the place behind it.
+fn strip(strips: &[u8], jet: usize, at: usize, size: usize) -> usize {
+    if size == 0 {
+        return at;
+    }
+    text(b" strip ");
+    count(jet);
+    text(b":");
+    if strips.len() < at {
+        return at;
+    }
+    let rest = &strips[at..];
+    bytes(front(rest, size));
+    if rest.len() < size {
+        return at;
+    }
+    at + size
+}
+
+// The strips of all jets, and the place behind them.
+fn all_strips(strips: &[u8], l: [usize; 4]) -> usize {
+    let second = strip(strips, 1, 0, l[0]);
+    let third = strip(strips, 2, second, l[1]);
+    let fourth = strip(strips, 3, third, l[2]);
+    strip(strips, 4, fourth, l[3])
+}
+
+// The first bytes of a buffer are as before the call again.
+fn clear(buffer: &mut [u8], n: usize) {
+    let blank = [UNWRITTEN; STRIPS];
+    lay(buffer, front(&blank, n));
+}
+
+// The answer's bytes, which are then as if they were not written.
+fn show_answer(answer: &mut [u8], done: Answered) {
+    number(done.number);
+    text(b" ");
+    count(done.consumed);
+    bytes(front(answer, done.answer));
+    clear(answer, done.answer);
+}
+
+// Bytes handed in: the number, the count consumed, the answer, and the strips that were written.
+pub(crate) fn hand_in(
+    state: &mut [u8],
+    s: &[u8],
+    answer: &mut [u8],
+    strips: &mut [u8],
+    rooms: Rooms,
+) {
+    let done = handed_in(state, s, answer, strips, rooms);
+    show_answer(answer, done);
+    let lengths = done.strips;
+    let end = all_strips(strips, lengths);
+    clear(strips, end);
+}
+
+// The frame of an identifier and data, which stand in a row, handed in.
+pub(crate) fn frame(
+    state: &mut [u8],
+    s: &[u8],
+    answer: &mut [u8],
+    strips: &mut [u8],
+    rooms: Rooms,
+) {
+    if s.len() < 1 {
+        return;
+    }
+    let mut out = [0; ANSWERS];
+    let built = build(&mut out, s[0], &s[1..]);
+    match built {
+        Built::Refused(k) => {
+            text(b" not built");
+            number(k);
+        }
+        Built::Written(n) => hand_in(state, front(&out, n), answer, strips, rooms),
+    }
+}
+
+// A fresh printer.
+pub(crate) fn start(state: &mut [u8], rooms: Rooms, model: u8, clock: Clock) {
+    let n = rooms.state;
+    if state.len() < n {
+        return;
+    }
+    number(fresh(&mut state[0..n], model, clock));
+}
+
+// The clock set.
+pub(crate) fn set(state: &mut [u8], rooms: Rooms, clock: Clock) {
+    let n = rooms.state;
+    if state.len() < n {
+        return;
+    }
+    number(set_clock(&mut state[0..n], clock));
+}
+
+// A tick.
+pub(crate) fn pass(state: &mut [u8], rooms: Rooms) {
+    let n = rooms.state;
+    if state.len() < n {
+        return;
+    }
+    number(tick(&mut state[0..n]));
+}
+
+// A state in each call: the numbers for 05h, for no bytes, for setting a moment that is not real, and for a tick.
+pub(crate) fn every_call(
+    state: &mut [u8],
+    answer: &mut [u8],
+    strips: &mut [u8],
+    rooms: Rooms,
+    unreal: Clock,
+) {
+    let enquiry = handed_in(state, b"\x05", answer, strips, rooms);
+    number(enquiry.number);
+    clear(answer, enquiry.answer);
+    let nothing = handed_in(state, b"", answer, strips, rooms);
+    number(nothing.number);
+    set(state, rooms, unreal);
+    pass(state, rooms);
+}
+
+// The content test.
+pub(crate) fn tested(s: &[u8]) {
+    number(test(s));
+}

@@ -1,0 +1,349 @@
+// The lines of the table, one after the other: what each of them says, and the call that it makes.
+use crate::call::ANSWERS;
+use crate::call::ROOM;
+use crate::call::Rooms;
+use crate::call::STRIPS;
+use crate::call::every_call;
+use crate::call::frame;
+use crate::call::hand_in;
+use crate::call::pass;
+use crate::call::set;
+use crate::call::start;
+use crate::call::tested;
+use crate::lower::BUFFER;
+use crate::lower::show_answer;
+use crate::lower::show_build;
+use crate::lower::show_edit;
+use crate::lower::show_lay;
+use crate::lower::show_positions;
+use crate::lower::show_put;
+use crate::lower::show_strip;
+use crate::lower::show_update;
+use crate::lower::show_wrap;
+use crate::show::UNWRITTEN;
+use crate::show::front;
+use crate::show::same;
+use crate::show::text;
+use crate::show::unwritten;
+use crate::text::BYTES;
+use crate::text::begins;
+use crate::text::byte_at;
+use crate::text::bytes_in;
+use crate::text::number;
+use crate::text::small;
+use frame::build::lay;
+use printer::answer::ANSWER;
+use printer::answer::STRIPS as STRIP_BUFFER;
+use printer::clock::Clock;
+use printer::clock::Date;
+use printer::state::STATE;
+ghost use Prim.Native.Nat.{_≤_};
+ghost use lib.ListN.{length};
+
+// The moment behind k spaces: second, minute, hour, day, month, year.
+fn moment(line: &[u8], k: usize) -> Clock
+    requires { ⌜ k ≤ 2 ⌝ }
+{
+    Clock {
+        second: small(line, k),
+        minute: small(line, k + 1),
+        hour: small(line, k + 2),
+        date: Date {
+            day: small(line, k + 3),
+            month: small(line, k + 4),
+            year: small(line, k + 5),
+        },
+    }
+}
+
+// More bytes than a line overwrites.
+const DAMAGE: usize = 64;
+
+// The bytes of a line go into a call.
+fn with_bytes(line: &[u8], state: &mut [u8], answer: &mut [u8], strips: &mut [u8], rooms: Rooms) {
+    let mut s = [0; BYTES];
+    if begins(line, b"frame") {
+        let n = bytes_in(line, 1, &mut s);
+        frame(state, front(&s, n), answer, strips, rooms);
+        return;
+    }
+    if begins(line, b"test") {
+        let n = bytes_in(line, 1, &mut s);
+        tested(front(&s, n));
+        return;
+    }
+    if begins(line, b"nothing") {
+        hand_in(state, b"", answer, strips, rooms);
+        return;
+    }
+    let n = bytes_in(line, 0, &mut s);
+    hand_in(state, front(&s, n), answer, strips, rooms);
+}
+
+// Bytes of the state, overwritten from a place on.
+fn poke(line: &[u8], state: &mut [u8]) {
+    let at = number(line, 1);
+    if state.len() < at {
+        return;
+    }
+    let mut s = [0; DAMAGE];
+    let n = bytes_in(line, 2, &mut s);
+    lay(&mut state[at..], front(&s, n));
+}
+
+// The same, and the state in each call; then those bytes are as before.
+fn damage(line: &[u8], state: &mut [u8], answer: &mut [u8], strips: &mut [u8], rooms: Rooms) {
+    let at = number(line, 1);
+    if state.len() < at {
+        return;
+    }
+    let mut before = [0; DAMAGE];
+    lay(&mut before, front(&state[at..], DAMAGE));
+    poke(line, state);
+    every_call(state, answer, strips, rooms, moment(b"0 0 0 0 0 0", 0));
+    lay(&mut state[at..], front(&before, DAMAGE));
+}
+
+// Whether a line makes a call of a lower crate.
+fn is_lower(line: &[u8]) -> bool {
+    if begins(line, b"build") {
+        return true;
+    }
+    if begins(line, b"answer") {
+        return true;
+    }
+    if begins(line, b"wrap") {
+        return true;
+    }
+    if begins(line, b"lay") {
+        return true;
+    }
+    if begins(line, b"strip") {
+        return true;
+    }
+    if begins(line, b"put") {
+        return true;
+    }
+    if begins(line, b"edit") {
+        return true;
+    }
+    if begins(line, b"update") {
+        return true;
+    }
+    begins(line, b"positions")
+}
+
+// A frame of the first byte and the others.
+fn built(line: &[u8], out: &mut [u8], room: usize, s: &[u8]) {
+    if s.len() < 1 {
+        return;
+    }
+    if begins(line, b"build") {
+        show_build(out, room, s[0], &s[1..]);
+        return;
+    }
+    if begins(line, b"answer") {
+        show_answer(out, room, s[0], &s[1..]);
+        return;
+    }
+    show_wrap(out, room, s[0], number(line, 3));
+}
+
+// Bytes into a buffer of so many bytes.
+fn laid(line: &[u8], out: &mut [u8], room: usize, s: &[u8]) {
+    if begins(line, b"lay") {
+        show_lay(out, room, s);
+        return;
+    }
+    if begins(line, b"strip") {
+        show_strip(out, room, s);
+        return;
+    }
+    if begins(line, b"put") {
+        show_put(out, room, s);
+        return;
+    }
+    if begins(line, b"positions") {
+        show_positions(s);
+        return;
+    }
+    built(line, out, room, s);
+}
+
+fn lower(line: &[u8]) {
+    let mut s = [0; BYTES];
+    let mut out = [UNWRITTEN; BUFFER];
+    if begins(line, b"edit") {
+        let n = bytes_in(line, 3, &mut s);
+        show_edit(&mut out, number(line, 1), number(line, 2), front(&s, n));
+        return;
+    }
+    if begins(line, b"update") {
+        let n = bytes_in(line, 3, &mut s);
+        show_update(&mut out, number(line, 1), number(line, 2), front(&s, n));
+        return;
+    }
+    let n = bytes_in(line, 2, &mut s);
+    laid(line, &mut out, number(line, 1), front(&s, n));
+}
+
+// A line that makes a call.
+fn obey(line: &[u8], state: &mut [u8], answer: &mut [u8], strips: &mut [u8], rooms: Rooms) {
+    if begins(line, b"fresh") {
+        start(state, rooms, small(line, 1), moment(line, 2));
+        return;
+    }
+    if begins(line, b"set") {
+        set(state, rooms, moment(line, 1));
+        return;
+    }
+    if begins(line, b"tick") {
+        pass(state, rooms);
+        return;
+    }
+    if begins(line, b"damage") {
+        damage(line, state, answer, strips, rooms);
+        return;
+    }
+    if is_lower(line) {
+        lower(line);
+        return;
+    }
+    with_bytes(line, state, answer, strips, rooms);
+}
+
+// Whether the state is the one that was kept, and no byte of the buffers is written.
+fn all_same(state: &[u8], kept: &[u8], answer: &[u8], strips: &[u8]) {
+    if !same(state, kept) {
+        text(b" no, the state");
+        return;
+    }
+    if !unwritten(answer, 0) {
+        text(b" no, the answer buffer");
+        return;
+    }
+    if !unwritten(strips, 0) {
+        text(b" no, the strip buffer");
+        return;
+    }
+    text(b" yes");
+}
+
+// What a line does; but for those that only prepare, its outcome stands behind it.
+fn act(
+    line: &[u8],
+    state: &mut [u8],
+    kept: &mut [u8],
+    answer: &mut [u8],
+    strips: &mut [u8],
+    rooms: Rooms,
+) {
+    if begins(line, b"keep") {
+        lay(kept, state);
+        return;
+    }
+    if begins(line, b"poke") {
+        poke(line, state);
+        return;
+    }
+    text(b" =");
+    if begins(line, b"same") {
+        all_same(state, kept, answer, strips);
+        return;
+    }
+    obey(line, state, answer, strips, rooms);
+}
+
+// The rooms from a line on.
+fn rooms_from(line: &[u8], rooms: Rooms) -> Rooms {
+    if begins(line, b"size") {
+        return Rooms {
+            state: number(line, 1),
+            answer: rooms.answer,
+            strips: rooms.strips,
+        };
+    }
+    Rooms {
+        state: rooms.state,
+        answer: number(line, 1),
+        strips: number(line, 2),
+    }
+}
+
+// Where the line that begins at a place ends.
+fn line_end(s: &[u8], from: usize) -> usize
+    requires { ⌜ from ≤ length (now s) ⌝ }
+    ensures { λ r. ⌜ (from ≤ r) × (r ≤ length (now (s .entry))) ⌝ }
+{
+    let mut at = from;
+    while at < s.len() {
+        if s[at] == 0x0A {
+            return at;
+        }
+        at += 1;
+    }
+    at
+}
+
+// Whether a line is a title or empty.
+fn is_title(line: &[u8]) -> bool {
+    if line.len() == 0 {
+        return true;
+    }
+    byte_at(line, 0) == 0x23
+}
+
+fn is_room(line: &[u8]) -> bool {
+    if begins(line, b"size") {
+        return true;
+    }
+    begins(line, b"rooms")
+}
+
+// A line, and the rooms from there on.
+fn turn(
+    line: &[u8],
+    state: &mut [u8],
+    kept: &mut [u8],
+    answer: &mut [u8],
+    strips: &mut [u8],
+    rooms: Rooms,
+) -> Rooms {
+    text(line);
+    if is_title(line) {
+        text(b"\n");
+        return rooms;
+    }
+    if is_room(line) {
+        text(b"\n");
+        return rooms_from(line, rooms);
+    }
+    act(line, state, kept, answer, strips, rooms);
+    text(b"\n");
+    rooms
+}
+
+pub(crate) fn run(s: &[u8]) {
+    let mut state = [0; ROOM];
+    let mut kept = [0; ROOM];
+    let mut answer = [UNWRITTEN; ANSWERS];
+    let mut strips = [UNWRITTEN; STRIPS];
+    let mut rooms = Rooms {
+        state: STATE,
+        answer: ANSWER,
+        strips: STRIP_BUFFER,
+    };
+    let mut at = 0;
+    while at < s.len() {
+        let end = line_end(s, at);
+        rooms = turn(
+            &s[at..end],
+            &mut state,
+            &mut kept,
+            &mut answer,
+            &mut strips,
+            rooms,
+        );
+        at = end + 1;
+    }
+}
