@@ -7,6 +7,7 @@ use mathlib.Core.List.{List, [], _∷_}
 use mathlib.Core.Path.{_≡_}
 use lib.ListN.{length, getD}
 use Rattle.frame.specs.Ground.{within, each}
+use Rattle.content.specs.Content.{longest-message}
 use Rattle.printer.specs.Clock.{is-real}
 use Rattle.printer.specs.Counter.{Counter}
 use Rattle.printer.specs.Jet.{Jet, good-parameters, with-message, with-parameters}
@@ -28,7 +29,7 @@ pub record SizedCounter (c : Counter) : Type 0 where
 
 pub record SizedJet (j : Jet) : Type 0 where
   pub message : j .length < 65_536
-  pub content : length (j .content) ≡ 512
+  pub content : length (j .content) ≡ longest-message
   pub general : length (j .general) ≡ 11
   pub counter : SizedCounter (j .counter)
 
@@ -102,7 +103,7 @@ SizedEach =
 
 -- So has a jet with another message or with other parameters, and a valid state behind a print.
 abbrev pub SizedMessage : Type 0
-SizedMessage = (j : Jet) (c : List ℕ) → SizedJet j → length c ≤ 512 → SizedJet (with-message j c)
+SizedMessage = (j : Jet) (c : List ℕ) → SizedJet j → length c ≤ longest-message → SizedJet (with-message j c)
 
 abbrev pub SizedParameters : Type 0
 SizedParameters =

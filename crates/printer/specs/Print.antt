@@ -1,10 +1,11 @@
 -- What 94h prints, and how every jet then counts.
-use Prim.Native.Nat.{ℕ, _≤_}
+use Prim.Native.Nat.{ℕ, _*_, _≤_}
 use mathlib.Core.Bool.{Bool, true}
 use mathlib.Core.List.{List, [], _∷_}
 use mathlib.Core.Path.{_≡_}
 use lib.ListN.{length}
 use Rattle.frame.specs.Ground.{unless, both, every, each, test, over}
+use Rattle.content.specs.Content.{longest-message}
 use Rattle.content.specs.Strip.{strip}
 use Rattle.content.specs.declared.strip.Values.{Values}
 use Rattle.printer.specs.Clock.{entries}
@@ -41,5 +42,5 @@ print p = record { tests = test (ready p) 11 ∷ []; after = counted-jets p; fra
 -- What is written of a jet: its strip, three times as long as a message of 512 bytes at the most.
 pub record PrintsJet (entries : List ℕ) (j : Jet) (before : List ℕ) (r : ℕ) (after : List ℕ) : Type 0 where
   pub count : r ≡ length (strip-of entries j)
-  pub short : r ≤ 1536
+  pub short : r ≤ 3 * longest-message
   pub bytes : after ≡ over (strip-of entries j) before

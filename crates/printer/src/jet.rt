@@ -8,6 +8,7 @@ use content::byte::within;
 use content::edit::Edited;
 use content::edit::edit;
 use content::position::field_positions;
+use content::test::MESSAGE;
 use content::test::is_content;
 use content::update::lay_text;
 use frame::build::lay;
@@ -27,9 +28,7 @@ pub struct JetNumber(u8);
 
 pub struct HeadNumber(u8);
 
-// How many bytes a content has room for, and how many are general.
-const CONTENT: usize = 512;
-
+// How many of the parameter bytes are general.
 const GENERAL: usize = 11;
 
 // Where the parts of a jet begin, the length at 0, and where it ends; the settings of its counter end where it says whether it is set.
@@ -151,7 +150,7 @@ fn valid_message(jet: &[u8]) -> bool
     if !has_message(jet) {
         return true;
     }
-    if CONTENT < message_length(jet) {
+    if MESSAGE < message_length(jet) {
         return false;
     }
     is_content(message(jet))
