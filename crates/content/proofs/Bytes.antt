@@ -42,9 +42,17 @@ pub told : (b : ℕ) (k : Kind) → kind-of b ≡ k → Means k b
 told b k e = subst (λ (j : Kind). Means j b) e (kind-means b)
 
 -- All marks lie between the expansions and the characters.
+pub mark-is-no-character : (b : ℕ) → b < 0x20 → is-character b ≡ false
+unfolding is-character
+mark-is-no-character b h = rw (lt-leb 0x20 b h)
+
 pub character-is-no-mark : (b k : ℕ) → is-character b ≡ true → k < 0x20 → eqb b k ≡ false
 unfolding is-character
 character-is-no-mark b k e h = let p = within-true 0x20 0x7E b e in ne-eqb b k (omega arith)
+
+pub expansion-is-no-character : (b : ℕ) → is-expansion b ≡ true → is-character b ≡ false
+unfolding is-expansion
+expansion-is-no-character b e = let p = within-true 0x01 0x09 b e in mark-is-no-character b (omega arith)
 
 pub expansion-is-no-mark : (b k : ℕ) → is-expansion b ≡ true → 0x09 < k → eqb b k ≡ false
 unfolding is-expansion

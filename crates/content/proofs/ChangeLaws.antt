@@ -3,7 +3,7 @@
 use Prim.Native.Nat.{ℕ, zero, suc, _+_, _-_, _≤_, _<_}
 use mathlib.Core.Bool.{Bool, true, false}
 use mathlib.Core.List.{List, [], _∷_, _++_, append-nil}
-use mathlib.Core.Path.{_≡_, refl, ap, _∙_}
+use mathlib.Core.Path.{_≡_, refl, sym, ap, _∙_}
 use native.Mathlib.Nat.{add-zero, suc-add, zero-add, zero-sub}
 use native.Mathlib.Omega.{arith}
 use native.Mathlib.Numerals.{one-add}
@@ -13,17 +13,44 @@ use Rattle.frame.specs.Ground.{unless}
 use Rattle.content.specs.Byte.{is-character, all-characters}
 use Rattle.content.specs.Machine.{Mode, start, step}
 use Rattle.content.specs.Content.{is-content, verdict}
-use Rattle.content.specs.Position.{marks, mark-of, is-position, is-field-position, field-positions-from}
-use Rattle.content.specs.Edit.{addressed, edited, replaced}
-use Rattle.content.specs.Update.{fitted, next-of, rest-of, laid}
-use Rattle.content.specs.ChangeLaws.{Changed, none, kept, changed, Kept, ChangeKeeps, EditChanges, EditStaysContent, EditLands, EditElsewhere, UpdateChanges, UpdateStaysContent, at-fields, UpdateLands, UpdateElsewhere, EditKeepsLength, UpdateKeepsLength}
+use Rattle.content.specs.Position.{at-fields, marks, mark-of, is-position, is-field-position, field-positions, field-positions-from}
+use Rattle.content.specs.Edit as edits
+use Rattle.content.specs.Edit.{addressed, edit-tests, edited, replaced}
+use Rattle.content.specs.Marks.{tree-letters}
+use Rattle.content.specs.Update as updates
+use Rattle.content.specs.Update.{fitted, next-of, rest-of, laid, update-tests, updated}
+use Rattle.content.specs.ChangeLaws.{Changed, none, kept, changed, Kept, ChangeKeeps, EditChanges, EditStaysContent, EditLands, EditAddresses, EditElsewhere, UpdateChanges, UpdateStaysContent, UpdateLands, UpdateLetters, UpdateElsewhere, MarksOfContent, PositionsOfContent, RefusedEditLeaves, RefusedUpdateLeaves, EditKeepsLength, UpdateKeepsLength}
 use Rattle.content.specs.Tree.{tree-of}
 use Rattle.content.specs.declared.position.Mark.{Mark}
 use Rattle.content.specs.declared.position.Mark.the-variants.{Structure, Character, FieldCharacter}
-use Rattle.content.specs.declared.edit.Edited.the-variants.{Done, NoPosition, NoCharacter}
-use Rattle.frame.proofs.Ground.{never, both-true, pick-case}
+use Rattle.content.specs.declared.edit.Edited.the-variants.{Done, Refused}
+use Rattle.content.specs.declared.test.Verdict.the-variants.{Good}
+use Rattle.content.specs.declared.update.Updated.the-variants.{Laid}
+use Rattle.frame.proofs.Ground.{never, both-true, checked-refuses, pick-case}
 use Rattle.content.proofs.Changes.{length-same, marks-same, no-structure, positions-same, read-same, rest-alike}
+use Rattle.content.proofs.Laws.{correct, field-positions-from-tree, letters-from-tree, marks-from-tree}
 use Rattle.content.proofs.Laying.{fitted-next}
+
+pub refused-edit-leaves : RefusedEditLeaves
+unfolding edited
+refused-edit-leaves s address symbols e =
+    let r = checked-refuses (edit-tests s address symbols) e in
+    rw (r .gives edits.refused Done)
+
+pub refused-update-leaves : RefusedUpdateLeaves
+unfolding updated
+refused-update-leaves s text e =
+    let r = checked-refuses (update-tests text) e in
+    rw (r .gives updates.refused (Laid (field-positions s)))
+
+pub marks-of-content : MarksOfContent
+marks-of-content s e = let t = correct s e in rw (t .1) at (marks-from-tree (tree-of s) (t .0))
+
+pub positions-of-content : PositionsOfContent
+positions-of-content s e = let t = correct s e in rw (t .1) at (field-positions-from-tree (tree-of s) (t .0))
+
+letters-of-content : (s : List ℕ) → verdict s ≡ Good → at-fields start s ≡ tree-letters (tree-of s)
+letters-of-content s e = let t = correct s e in rw (t .1) at (letters-from-tree (tree-of s) (t .0))
 
 pub change-keeps : ChangeKeeps
 unfolding verdict tree-of
@@ -65,7 +92,7 @@ replaced-changes m [] (suc a) (x ∷ xs) p q = never p
 replaced-changes m (b ∷ s) (suc a) symbols p q = rw suc-add (kept (replaced-changes (step m b) s a symbols p q))
 
 -- What the tests of an accepted edit came to.
-accepted : (x y : Bool) → unless x NoPosition (unless y NoCharacter Done) ≡ Done → (x ≡ true) × (y ≡ true)
+accepted : (x y : Bool) → unless x (Refused 12) (unless y (Refused 13) Done) ≡ Done → (x ≡ true) × (y ≡ true)
 accepted true true e = (refl, refl)
 accepted true false e = never (cc)
 accepted false y e = never (cc)
@@ -81,6 +108,20 @@ edit-stays-content s address symbols c e = stays-content s _ (edit-changes s add
 
 pub edit-keeps-length : EditKeepsLength
 edit-keeps-length s address symbols e = (change-keeps s _ (edit-changes s address symbols e)) .length-kept
+
+addressed-at :
+    (symbols : List ℕ) (ms : List Mark) (k : ℕ) → addressed symbols ms ≡ true → k < length symbols →
+    is-position (getD ms k Structure) ≡ true
+addressed-at [] ms k e h = absurd (omega arith)
+addressed-at (x ∷ xs) [] k e h = never e
+addressed-at (x ∷ xs) (m ∷ ms) zero e h = (both-true (is-position m) (addressed xs ms) e) .0
+addressed-at (x ∷ xs) (m ∷ ms) (suc k) e h = addressed-at xs ms k ((both-true (is-position m) (addressed xs ms) e) .1) (omega arith)
+
+pub edit-addresses : EditAddresses
+unfolding edited
+edit-addresses s address symbols k v e h =
+    let t = accepted (addressed symbols (drop address (marks start s))) (all-characters symbols) e in
+    rw (← marks-of-content s v, ← getD-drop address (marks start s) k Structure) (addressed-at symbols (drop address (marks start s)) k (t .0) h)
 
 -- Where the length stays, symbols lie within it.
 symbols-fit :
@@ -164,6 +205,13 @@ laid-lands m (b ∷ s) text e =
 
 pub update-lands : UpdateLands
 update-lands s text e = laid-lands start s text e
+
+pub update-letters : UpdateLetters
+update-letters s text e c =
+    let k = change-keeps s _ (update-changes s text c) in
+    sym (letters-of-content (laid text start s) (k .verdict-kept ∙ e))
+    ∙ update-lands s text c
+    ∙ ap (λ (n : ℕ). fitted n text) (positions-of-content s e)
 
 laid-length : (m : Mode) (s text : List ℕ) → length (laid text m s) ≡ length s
 laid-length m [] text = refl

@@ -2,14 +2,15 @@
 -- are written alike: each piece puts just itself before the rest that follows it.
 use mathlib.Core.List.{[]}
 use mathlib.Core.Path.{ap, _∙_, sym}
+use lib.ListN.{length}
 use Rattle.content.specs.Machine.{start}
 use Rattle.content.specs.Grammar.{encode}
 use Rattle.content.specs.Tree.{Rest, tree-of}
-use Rattle.content.specs.Laws.{Correct, Complete, Unambiguous, ExactlyOneTree, ReadBack, CharactersAreNoStructure}
+use Rattle.content.specs.Laws.{Correct, Complete, Unambiguous, ExactlyOneTree, ReadBack, MarksFromTree, LettersFromTree, FieldPositionsFromTree, CharactersAreNoStructure}
 use Rattle.content.specs.declared.strip.Values.{Values}
 use Rattle.content.proofs.Changes.{no-structure}
 use Rattle.content.proofs.Good.{good-tree-tells}
-use Rattle.content.proofs.Run.{run-verdict}
+use Rattle.content.proofs.Run.{length-at-fields, run-verdict}
 use Rattle.content.proofs.Pieces.{rest-befores, tree-piece}
 use Rattle.content.proofs.Trees.{reads-a-tree}
 
@@ -27,6 +28,15 @@ pub read-back : ReadBack
 unfolding tree-of
 read-back t g =
     ap (λ (r : Rest). r .lines) (rest-befores start (encode t) ∙ (tree-piece no-values t (good-tree-tells t g)) .builds)
+
+pub marks-from-tree : MarksFromTree
+marks-from-tree t g = (tree-piece no-values t (good-tree-tells t g)) .bears
+
+pub letters-from-tree : LettersFromTree
+letters-from-tree t g = (tree-piece no-values t (good-tree-tells t g)) .spells
+
+pub field-positions-from-tree : FieldPositionsFromTree
+field-positions-from-tree t g = length-at-fields start (encode t) ∙ ap length (letters-from-tree t g)
 
 pub unambiguous : Unambiguous
 unambiguous t u g h e = sym (read-back t g) ∙ ap tree-of e ∙ read-back u h

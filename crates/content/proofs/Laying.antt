@@ -3,7 +3,7 @@ use Prim.Native.Nat.{ℕ, zero, suc, _+_, _-_, _≤_, _<_}
 use mathlib.Core.Bool.{Bool, true, false}
 use mathlib.Core.List.{List, [], _∷_, _++_, append-assoc, append-nil}
 use mathlib.Core.Path.{_≡_, refl, sym, _∙_, ap, ap₂}
-use native.Mathlib.Nat.{sub-zero, zero-sub, suc-sub-suc}
+use native.Mathlib.Nat.{sub-zero, zero-sub, suc-sub-suc, suc-add, zero-add}
 use native.Mathlib.Numerals.{add-one}
 use native.Mathlib.Omega.{arith}
 use lib.ListN.{length, take, drop, set, replicate, length-append, length-drop, length-set, take-append-drop, drop-of-length-le}
@@ -23,20 +23,29 @@ use Rattle.content.proofs.Stretches.{fields-left, fields-none, fields-t
 use Rattle.content.proofs.Tokens.{here}
 
 -- ---- A text cut or filled to a length.
-fitted-none : (text : List ℕ) → fitted 0 text ≡ []
+pub fitted-none : (text : List ℕ) → fitted 0 text ≡ []
 fitted-none text = rw zero-sub
 
 pub fitted-next : (n : ℕ) (text : List ℕ) → fitted (suc n) text ≡ next-of text ∷ fitted n (rest-of text)
 fitted-next n [] = rw (take-nil, sub-zero (suc n), sub-zero n)
 fitted-next n (c ∷ text) = rw suc-sub-suc
 
-fitted-length : (n : ℕ) (text : List ℕ) → length (fitted n text) ≡ n
-fitted-length zero text = ap length (fitted-none text)
-fitted-length (suc n) text = ap length (fitted-next n text) ∙ ap suc (fitted-length n (rest-of text))
-
 rest-drop : (n : ℕ) (text : List ℕ) → drop n (rest-of text) ≡ drop (suc n) text
 rest-drop n [] = drop-nil n
 rest-drop n (x ∷ text) = refl
+
+-- A text for two contents, one behind the other.
+pub fitted-append : (a b : ℕ) (text : List ℕ) → fitted (a + b) text ≡ fitted a text ++ fitted b (drop a text)
+fitted-append zero b text = rw (zero-add, fitted-none text)
+fitted-append (suc a) b text =
+    ap (λ (n : ℕ). fitted n text) (suc-add a b)
+    ∙ fitted-next (a + b) text
+    ∙ ap (_∷_ (next-of text)) (fitted-append a b (rest-of text) ∙ ap (λ (l : List ℕ). fitted a (rest-of text) ++ fitted b l) (rest-drop a text))
+    ∙ sym (ap (λ (l : List ℕ). l ++ fitted b (drop (suc a) text)) (fitted-next a text))
+
+fitted-length : (n : ℕ) (text : List ℕ) → length (fitted n text) ≡ n
+fitted-length zero text = ap length (fitted-none text)
+fitted-length (suc n) text = ap length (fitted-next n text) ∙ ap suc (fitted-length n (rest-of text))
 
 fitted-more : (n : ℕ) (text : List ℕ) → fitted (suc n) text ≡ fitted n text ++ (next-of (drop n text) ∷ [])
 fitted-more zero text = fitted-next 0 text ∙ ap₂ (λ (x y : List ℕ). y ++ (next-of text ∷ x)) (fitted-none (rest-of text)) (sym (fitted-none text))

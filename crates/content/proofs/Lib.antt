@@ -15,6 +15,7 @@ pub mod ChangeLaws
 pub mod StripLaws
 pub mod Name
 pub mod Unique
+pub mod Told
 pub mod Tokens
 pub mod Walk
 pub mod Puts

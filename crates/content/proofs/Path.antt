@@ -128,6 +128,10 @@ pub no-character : (m : Mode) (b : ℕ) → is-character b ≡ false → mark-of
 unfolding mark-of
 no-character m b e = rw e
 
+pub a-character : (m : Mode) (b : ℕ) → is-character b ≡ true → mark-of m b ≡ mark-in m
+unfolding mark-of
+a-character m b e = rw e
+
 stuck-in : (m : Mode) (b : ℕ) → (is-character b ≡ true → step m b ≡ Bad → ⊥) → step m b ≡ Bad → mark-of m b ≡ Structure
 stuck-in m b n e = go (is-character b) refl
   where

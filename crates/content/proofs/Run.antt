@@ -3,13 +3,15 @@ use Prim.Native.Nat.{ℕ, suc, _+_}
 use mathlib.Core.Bool.{Bool, true, false}
 use mathlib.Core.List.{List, [], _∷_, _++_, append-nil, append-assoc}
 use mathlib.Core.Path.{_≡_, refl, ap, _∙_, sym}
+use native.Mathlib.Nat.{zero-add}
+use native.Mathlib.Numerals.{one-add}
 use native.Mathlib.Omega.{arith}
 use lib.ListN.{length}
 use Rattle.frame.specs.Ground.{pick}
 use Rattle.content.specs.Machine.{Spot, Mode, Reading, Done, Bad, start, step}
 use Rattle.content.specs.Content.{verdict, read, ended, onward}
 use Rattle.content.specs.declared.item.Seen.{Seen}
-use Rattle.content.specs.Position.{mark-of, marks}
+use Rattle.content.specs.Position.{at-fields, field-positions-from, is-field-position, mark-of, marks}
 use Rattle.content.specs.Strip.{strip-from}
 use Rattle.content.specs.declared.strip.Values.{Values}
 use Rattle.content.specs.declared.test.Verdict.{Verdict}
@@ -86,6 +88,23 @@ length-marks m (b ∷ s) = ap suc (length-marks (step m b) s)
 pub marks-append : (m : Mode) (p q : List ℕ) → marks m (p ++ q) ≡ marks m p ++ marks (run m p) q
 marks-append m [] q = refl
 marks-append m (b ∷ p) q = ap (_∷_ (mark-of m b)) (marks-append (step m b) p q)
+
+pub at-fields-append : (m : Mode) (p q : List ℕ) → at-fields m (p ++ q) ≡ at-fields m p ++ at-fields (run m p) q
+at-fields-append m [] q = refl
+at-fields-append m (b ∷ p) q = rw (at-fields-append (step m b) p q) (go (is-field-position (mark-of m b)) (at-fields (step m b) p) _)
+  where
+    go : (t : Bool) (x y : List ℕ) → pick t (b ∷ (x ++ y)) (x ++ y) ≡ pick t (b ∷ x) x ++ y
+    go true x y = refl
+    go false x y = refl
+
+-- There are as many bytes at field positions as there are field positions.
+pub length-at-fields : (m : Mode) (s : List ℕ) → field-positions-from m s ≡ length (at-fields m s)
+length-at-fields m [] = refl
+length-at-fields m (b ∷ s) = rw (length-at-fields (step m b) s) (go (is-field-position (mark-of m b)) (at-fields (step m b) s))
+  where
+    go : (t : Bool) (x : List ℕ) → pick t 1 0 + length x ≡ length (pick t (b ∷ x) x)
+    go true x = one-add (length x)
+    go false x = zero-add (length x)
 
 pub strip-append :
     (v : Values) (m : Mode) (p q : List ℕ) → strip-from v m (p ++ q) ≡ strip-from v m p ++ strip-from v (run m p) q

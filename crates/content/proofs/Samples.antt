@@ -1,11 +1,18 @@
--- Document 01's samples of contents, and bad neighbours of each, computed over the rules.
+-- Document 01's samples of contents, and bad neighbours of each, computed over the rules; then each number of an edit, an update and a
+-- strip.
 use Prim.Native.Nat.{ℕ, zero, suc}
 use mathlib.Core.List.{List, [], _∷_, _++_, map}
 use mathlib.Core.Path.{_≡_, refl}
-use lib.ListN.{replicate}
+use lib.ListN.{drop, replicate}
 use Rattle.content.specs.Byte.{is-character, is-expansion, is-count, kind-of, code-of}
-use Rattle.content.specs.Machine.{with-line, with-field}
+use Rattle.content.specs.Machine.{start, with-line, with-field}
 use Rattle.content.specs.Content.{verdict, is-content, tested}
+use Rattle.content.specs.Position.{mark-of, marks}
+use Rattle.content.specs.Edit as edits
+use Rattle.content.specs.Update as updates
+use Rattle.content.specs.Strip as strips
+use Rattle.content.specs.declared.position.Mark.the-variants.{Structure, Character, FieldCharacter}
+use Rattle.content.specs.declared.strip.Values.{Values}
 use Rattle.content.specs.declared.test.Verdict.{Verdict}
 use Rattle.content.specs.declared.test.Verdict.the-variants.{Good, Unfit}
 
@@ -68,3 +75,95 @@ judged s = sample (s .bytes) (tested (s .bytes)) (verdict (s .bytes))
 samples-hold : map judged samples ≡ samples
 unfolding judged samples sample line fields frame-a tested is-content verdict with-line with-field kind-of code-of is-character is-expansion is-count
 samples-hold = refl
+
+-- ---- Character positions, edits, updates and strips of one content: a letter, a field with a letter, a counter, and a date item with a
+-- colon.
+mixed : List ℕ
+mixed =
+    0x0A ∷ 0x02 ∷ 0x54 ∷ 0x41 ∷ 0x12 ∷ 0x42 ∷ 0x43 ∷ 0x12 ∷ 0x1C ∷ 0x01 ∷ 0x1C ∷ 0x1B ∷ 0x70 ∷ 0x1B ∷ 0x0D ∷ []
+
+-- The font 54h and the code 70h look like letters and are none; 41h is a letter, 42h and 43h are letters of the field.
+mixed-marks : marks start mixed
+    ≡ Structure
+    ∷ Structure
+    ∷ Structure
+    ∷ Character
+    ∷ Structure
+    ∷ FieldCharacter
+    ∷ FieldCharacter
+    ∷ Structure
+    ∷ Structure
+    ∷ Structure
+    ∷ Structure
+    ∷ Structure
+    ∷ Structure
+    ∷ Structure
+    ∷ Structure
+    ∷ []
+unfolding mixed mark-of kind-of code-of is-character is-expansion is-count with-line with-field
+mixed-marks = refl
+
+-- An edit at an address: its number, and the bytes after it.
+edit-at : ℕ → List ℕ → ℕ × List ℕ
+edit-at address symbols =
+    let r = edits.edited mixed address symbols in
+    (edits.number r, edits.bytes-after r mixed address symbols)
+
+-- Numbers 0, 12 and 13; all addresses are looked at before all symbols, and a refusal leaves every byte.
+edits-hold :
+    edit-at 3 (0x5A ∷ []) ∷ edit-at 6 (0x5A ∷ []) ∷ edit-at 2 (0x5A ∷ []) ∷ edit-at 3 (0x5A ∷ 0x5A ∷ []) ∷ edit-at 15 (0x5A ∷ []) ∷ edit-at 3 (0x0D ∷ []) ∷ edit-at 4 (0x0D ∷ []) ∷ []
+    ≡ (0, 0x0A ∷ 0x02 ∷ 0x54 ∷ 0x5A ∷ drop 4 mixed)
+    ∷ (0, 0x0A ∷ 0x02 ∷ 0x54 ∷ 0x41 ∷ 0x12 ∷ 0x42 ∷ 0x5A ∷ drop 7 mixed)
+    ∷ (12, mixed)
+    ∷ (12, mixed)
+    ∷ (12, mixed)
+    ∷ (13, mixed)
+    ∷ (12, mixed)
+    ∷ []
+unfolding edit-at mixed edits.edited mark-of kind-of code-of is-character is-expansion is-count with-line with-field
+edits-hold = refl
+
+-- An update with a text: its number, and the bytes after it.
+update-with : List ℕ → ℕ × List ℕ
+update-with text =
+    let r = updates.updated mixed text in
+    (updates.number r, updates.bytes-after r mixed text)
+
+-- Numbers 0 and 13: two positions, filled with spaces; a third character is dropped, but looked at.
+updates-hold :
+    update-with (0x58 ∷ []) ∷ update-with (0x58 ∷ 0x59 ∷ 0x5A ∷ []) ∷ update-with (0x58 ∷ 0x59 ∷ 0x0D ∷ []) ∷ []
+    ≡ (0, 0x0A ∷ 0x02 ∷ 0x54 ∷ 0x41 ∷ 0x12 ∷ 0x58 ∷ 0x20 ∷ drop 7 mixed)
+    ∷ (0, 0x0A ∷ 0x02 ∷ 0x54 ∷ 0x41 ∷ 0x12 ∷ 0x58 ∷ 0x59 ∷ drop 7 mixed)
+    ∷ (13, mixed)
+    ∷ []
+unfolding update-with mixed updates.updated mark-of kind-of code-of is-character is-expansion is-count with-line with-field
+updates-hold = refl
+
+-- A counter at 123456789.
+moment : Values
+moment =
+    record {
+      digits = 0x31 ∷ 0x32 ∷ 0x33 ∷ 0x34 ∷ 0x35 ∷ 0x36 ∷ 0x37 ∷ 0x38 ∷ 0x39 ∷ [];
+      entries = replicate 24 0x00;
+    }
+
+-- A strip into so much room: its number, its length and its bytes.
+strip-into : ℕ → List ℕ → ℕ × ℕ × List ℕ
+strip-into room s =
+    let r = strips.stripped (strips.strip-tests moment s room) moment s in
+    (strips.number r, strips.strip-length r, strips.strip-bytes r moment s)
+
+-- Numbers 0, 10 and 2, and 10 before 2: a byte less than the strip of 17 is too short.
+strips-hold :
+    strip-into 17 mixed ∷ strip-into 16 mixed ∷ strip-into 17 (0x0D ∷ []) ∷ strip-into 0 (0x0D ∷ []) ∷ []
+    ≡ (
+      0,
+      17,
+      0x0A ∷ 0x02 ∷ 0x54 ∷ 0x41 ∷ 0x42 ∷ 0x43 ∷ 0x31 ∷ 0x32 ∷ 0x33 ∷ 0x34 ∷ 0x35 ∷ 0x36 ∷ 0x37 ∷ 0x38 ∷ 0x39 ∷ 0x3A ∷ 0x0D ∷ [],
+    )
+    ∷ (2, 0, [])
+    ∷ (10, 0, [])
+    ∷ (10, 0, [])
+    ∷ []
+unfolding strip-into moment mixed strips.stripped strips.strip strips.printed is-content verdict mark-of kind-of code-of is-character is-expansion is-count with-line with-field
+strips-hold = refl

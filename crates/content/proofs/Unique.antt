@@ -1,11 +1,23 @@
 -- Every contract has one outcome: the answer is the rule's, and the bytes after go by the answer.
-use Rattle.content.specs.Unique.{ReadsUnique, TestsUnique, EditsUnique, UpdatesUnique, LayingUnique, StripsUnique, PutsUnique}
+use Rattle.content.specs.Unique.{ReadsUnique, TestsUnique, WithinUnique, AllCharactersUnique, IsContentUnique, FieldPositionsUnique, EditsUnique, UpdatesUnique, LayingUnique, StripsUnique, PutsUnique}
 
 pub reads-unique : ReadsUnique
 reads-unique s r r′ p q = cc
 
 pub tests-unique : TestsUnique
 tests-unique s r r′ p q = cc
+
+pub within-unique : WithinUnique
+within-unique least most b r r′ p q = cc
+
+pub all-characters-unique : AllCharactersUnique
+all-characters-unique s r r′ p q = cc
+
+pub is-content-unique : IsContentUnique
+is-content-unique s r r′ p q = cc
+
+pub field-positions-unique : FieldPositionsUnique
+field-positions-unique s r r′ p q = cc
 
 pub edits-unique : EditsUnique
 edits-unique before address symbols r r′ after after′ p q = ((cc), (cc))

@@ -4,17 +4,32 @@ use mathlib.Core.Bool.{true, false}
 use mathlib.Core.List.{List, [], _∷_}
 use mathlib.Core.Path.{_≡_}
 use lib.ListN.{length, getD}
-use Rattle.frame.specs.Ground.{pick}
+use Rattle.frame.specs.Ground.{all}
 use Rattle.content.specs.Byte.{is-character, all-characters}
 use Rattle.content.specs.Machine.{Mode, start, step}
 use Rattle.content.specs.Content.{verdict, is-content}
-use Rattle.content.specs.Position.{marks, mark-of, is-position, is-field-position, field-positions}
-use Rattle.content.specs.Edit.{edited, replaced}
-use Rattle.content.specs.Update.{fitted, laid}
+use Rattle.content.specs.Position.{at-fields, marks, mark-of, is-position, is-field-position, field-positions}
+use Rattle.content.specs.Edit as edit
+use Rattle.content.specs.Edit.{edit-tests, edited, replaced}
+use Rattle.content.specs.Update as update
+use Rattle.content.specs.Update.{fitted, laid, update-tests, updated}
+use Rattle.content.specs.Marks.{tree-letters, tree-marks}
 use Rattle.content.specs.Grammar.{outline}
 use Rattle.content.specs.Tree.{tree-of}
 use Rattle.content.specs.declared.position.Mark.the-variants.{Structure}
 use Rattle.content.specs.declared.edit.Edited.the-variants.{Done}
+use Rattle.content.specs.declared.test.Verdict.the-variants.{Good}
+
+-- What a refusal leaves: every byte. The first write stands behind the last test.
+abbrev pub RefusedEditLeaves : Type 0
+RefusedEditLeaves =
+    (s : List ℕ) (address : ℕ) (symbols : List ℕ) →
+    all (edit-tests s address symbols) ≡ false →
+    edit.bytes-after (edited s address symbols) s address symbols ≡ s
+
+abbrev pub RefusedUpdateLeaves : Type 0
+RefusedUpdateLeaves =
+    (s text : List ℕ) → all (update-tests text) ≡ false → update.bytes-after (updated s text) s text ≡ s
 
 -- Two lists of bytes that differ only where the first has character positions, and there the second has characters.
 pub data Changed : Mode → List ℕ → List ℕ → Type 0 where
@@ -62,6 +77,15 @@ EditLands =
     k < length symbols →
     getD (replaced s address symbols) (address + k) 0 ≡ getD symbols k 0
 
+-- Each of them lands on a character of the tree, be it an item or inside a field.
+abbrev pub EditAddresses : Type 0
+EditAddresses =
+    (s : List ℕ) (address : ℕ) (symbols : List ℕ) (k : ℕ) →
+    verdict s ≡ Good →
+    edited s address symbols ≡ Done →
+    k < length symbols →
+    is-position (getD (tree-marks (tree-of s)) (address + k) Structure) ≡ true
+
 -- The bytes before and behind those stay.
 abbrev pub EditElsewhere : Type 0
 EditElsewhere =
@@ -85,11 +109,6 @@ UpdateStaysContent =
     all-characters text ≡ true →
     (is-content (laid text start s) ≡ true) × Kept s (laid text start s)
 
--- The bytes at the field positions, in order.
-abbrev pub at-fields : Mode → List ℕ → List ℕ
-at-fields m [] = []
-at-fields m (b ∷ s) = pick (is-field-position (mark-of m b)) (b ∷ at-fields (step m b) s) (at-fields (step m b) s)
-
 -- 01, What an accepted frame does: "An update lays its characters over the character positions of external fields [..], fields in
 -- order [..]. Positions left over become spaces, characters left over are dropped."
 abbrev pub UpdateLands : Type 0
@@ -98,9 +117,24 @@ UpdateLands =
     all-characters text ≡ true →
     at-fields start (laid text start s) ≡ fitted (field-positions s) text
 
+-- The same in the words of the grammar: the characters of the tree's fields, in order, become the text.
+abbrev pub UpdateLetters : Type 0
+UpdateLetters =
+    (s text : List ℕ) →
+    verdict s ≡ Good →
+    all-characters text ≡ true →
+    tree-letters (tree-of (laid text start s)) ≡ fitted (length (tree-letters (tree-of s))) text
+
 -- Every other byte stays.
 abbrev pub UpdateElsewhere : Type 0
 UpdateElsewhere =
     (s text : List ℕ) (i : ℕ) →
     is-field-position (getD (marks start s) i Structure) ≡ false →
     getD (laid text start s) i 0 ≡ getD s i 0
+
+-- Which positions these are, a tree says.
+abbrev pub MarksOfContent : Type 0
+MarksOfContent = (s : List ℕ) → verdict s ≡ Good → marks start s ≡ tree-marks (tree-of s)
+
+abbrev pub PositionsOfContent : Type 0
+PositionsOfContent = (s : List ℕ) → verdict s ≡ Good → field-positions s ≡ length (tree-letters (tree-of s))

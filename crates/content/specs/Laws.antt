@@ -4,10 +4,12 @@ use Prim.Native.Nat.{ℕ}
 use mathlib.Core.Bool.{true}
 use mathlib.Core.List.{List}
 use mathlib.Core.Path.{_≡_}
+use lib.ListN.{length}
 use Rattle.content.specs.Byte.{is-character}
-use Rattle.content.specs.Machine.{Mode, step}
+use Rattle.content.specs.Machine.{Mode, start, step}
 use Rattle.content.specs.Content.{verdict}
-use Rattle.content.specs.Position.{mark-of, is-position}
+use Rattle.content.specs.Marks.{tree-letters, tree-marks}
+use Rattle.content.specs.Position.{at-fields, field-positions, is-position, mark-of, marks}
 use Rattle.content.specs.Grammar.{Tree, encode, good-tree}
 use Rattle.content.specs.Tree.{tree-of}
 use Rattle.content.specs.declared.test.Verdict.the-variants.{Good}
@@ -37,6 +39,18 @@ ExactlyOneTree =
 -- Reading undoes writing.
 abbrev pub ReadBack : Type 0
 ReadBack = (t : Tree) → good-tree t ≡ true → tree-of (encode t) ≡ t
+
+-- 01, What a content is: "The bytes of a character position are those of character items and of characters inside fields, and no
+-- others": the marks that edits and updates go by are those of the tree.
+abbrev pub MarksFromTree : Type 0
+MarksFromTree = (t : Tree) → good-tree t ≡ true → marks start (encode t) ≡ tree-marks t
+
+-- So are the bytes at the field positions, in order, and their count.
+abbrev pub LettersFromTree : Type 0
+LettersFromTree = (t : Tree) → good-tree t ≡ true → at-fields start (encode t) ≡ tree-letters t
+
+abbrev pub FieldPositionsFromTree : Type 0
+FieldPositionsFromTree = (t : Tree) → good-tree t ≡ true → field-positions (encode t) ≡ length (tree-letters t)
 
 -- No byte that is a character can be read as structure at a character position, whatever stands around it: each leads the machine where
 -- the one that stands there leads it, and bears the same mark.

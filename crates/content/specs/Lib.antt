@@ -9,6 +9,7 @@ pub mod Update
 pub mod Strip
 pub mod Item
 pub mod Grammar
+pub mod Marks
 pub mod Tree
 pub mod Laws
 pub mod ChangeLaws

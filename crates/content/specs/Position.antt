@@ -65,6 +65,11 @@ field-positions-from m (b ∷ s) = pick (is-field-position (mark-of m b)) 1 0 + 
 abbrev pub field-positions : List ℕ → ℕ
 field-positions s = field-positions-from start s
 
+-- The bytes at those positions, in order.
+abbrev pub at-fields : Mode → List ℕ → List ℕ
+at-fields m [] = []
+at-fields m (b ∷ s) = pick (is-field-position (mark-of m b)) (b ∷ at-fields (step m b) s) (at-fields (step m b) s)
+
 -- What the bytes of an item are.
 abbrev pub item-mark : Item → Mark
 item-mark item.LineOpens = Structure

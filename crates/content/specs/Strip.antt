@@ -2,9 +2,9 @@
 use Prim.Native.Nat.{ℕ, _+_, _*_}
 use mathlib.Core.List.{List, [], _∷_, _++_}
 use mathlib.Core.Path.{_≡_}
-use lib.Dec.{eqb, ltb}
+use lib.Dec.{eqb, leb}
 use lib.ListN.{length, getD, take, drop}
-use Rattle.frame.specs.Ground.{pick, unless, over}
+use Rattle.frame.specs.Ground.{Refusal, Test, checked, first-failing, over, pick, test}
 use Rattle.content.specs.Byte.{kind-of, code-of}
 use Rattle.content.specs.Machine.{Spot, Inside, Font, TabulationCount, TabulationEnd, CounterNumber, CounterEnd, Mode, Reading, Done, Bad, start, step}
 use Rattle.content.specs.Content.{is-content}
@@ -20,7 +20,7 @@ use Rattle.content.specs.declared.item.Place.{Place}
 use Rattle.content.specs.declared.item.Place.the-variants as place
 use Rattle.content.specs.declared.strip.Values.{Values}
 use Rattle.content.specs.declared.strip.Stripped.{Stripped}
-use Rattle.content.specs.declared.strip.Stripped.the-variants.{NoContent, Short, Written}
+use Rattle.content.specs.declared.strip.Stripped.the-variants.{Refused, Written}
 
 -- 01, What a content is: what each code of a date item stands for, with the bytes of the moment as they are handed in.
 abbrev pub character-in : List ℕ → Code → ℕ
@@ -106,32 +106,46 @@ item-shows digits entries item.DateCloses bytes = []
 abbrev pub put-at : ℕ → List ℕ → List ℕ → List ℕ
 put-at to bytes before = take to before ++ (bytes ++ drop (to + length bytes) before)
 
--- The strip writer's answer for a buffer with so much room: 10 for what is no content, 2 where the strip doesn't fit.
-unfoldable pub stripped : Values → List ℕ → ℕ → Stripped
-stripped v s room =
-    unless (is-content s) NoContent (pick (ltb room (length (strip v s))) Short (Written (length (strip v s))))
+-- The strip writer's tests for a buffer with so much room: 10 for what is no content and so has no strip, then 2 where the strip doesn't
+-- fit.
+abbrev pub strip-tests : Values → List ℕ → ℕ → List Test
+strip-tests v s room = test (is-content s) 10 ∷ test (leb (length (strip v s)) room) 2 ∷ []
 
--- Its answer where it doesn't ask whether the bytes are a content, but for room for the longest strip that they could have.
-unfoldable pub put-stripped : Values → List ℕ → ℕ → Stripped
-put-stripped v s room = pick (ltb room (3 * length s)) Short (Written (length (strip v s)))
+-- Its test where it doesn't ask whether the bytes are a content, but for room for the longest strip that they could have.
+abbrev pub put-tests : List ℕ → ℕ → List Test
+put-tests s room = test (leb (3 * length s) room) 2 ∷ []
+
+abbrev pub refused : Refusal → Stripped
+refused r = Refused (r .number)
+
+-- The answer: the first test that fails, or the length of the strip.
+unfoldable pub stripped : List Test → Values → List ℕ → Stripped
+stripped tests v s = checked tests refused (Written (length (strip v s)))
 
 abbrev pub strip-bytes : Stripped → Values → List ℕ → List ℕ
-strip-bytes NoContent v s = []
-strip-bytes Short v s = []
+strip-bytes (Refused k) v s = []
 strip-bytes (Written n) v s = strip v s
 
--- 01, Numbers: the number of each case.
+-- 01, Numbers: the number of each case, and the length that is given back.
 abbrev pub number : Stripped → ℕ
-number NoContent = 10
-number Short = 2
+number (Refused k) = k
 number (Written n) = 0
 
--- The contract of `write_strip`: the rule's answer, and over the buffer's front just the strip it tells of.
-pub record Strips (v : Values) (s before : List ℕ) (r : Stripped) (after : List ℕ) : Type 0 where
-  pub answer : r ≡ stripped v s (length before)
+abbrev pub strip-length : Stripped → ℕ
+strip-length (Refused k) = 0
+strip-length (Written n) = n
+
+-- What is given back, and over the buffer's front just the strip that it tells of.
+pub record Gives (tests : List Test) (v : Values) (s before : List ℕ) (r : Stripped) (after : List ℕ) : Type 0 where
+  pub answer : r ≡ stripped tests v s
+  pub first : number r ≡ first-failing tests
+  pub size : strip-length r ≡ length (strip-bytes r v s)
   pub buffer : after ≡ over (strip-bytes r v s) before
 
--- The contract of `put_strip`, the same with its own answer.
-pub record Puts (v : Values) (s before : List ℕ) (r : Stripped) (after : List ℕ) : Type 0 where
-  pub answer : r ≡ put-stripped v s (length before)
-  pub buffer : after ≡ over (strip-bytes r v s) before
+-- The contract of `write_strip`.
+abbrev pub Strips : Values → List ℕ → List ℕ → Stripped → List ℕ → Type 0
+Strips v s before r after = Gives (strip-tests v s (length before)) v s before r after
+
+-- The contract of `put_strip`, the same with its own test.
+abbrev pub Puts : Values → List ℕ → List ℕ → Stripped → List ℕ → Type 0
+Puts v s before r after = Gives (put-tests s (length before)) v s before r after

@@ -13,10 +13,8 @@ ghost use Rattle.content.specs.Position.{marks};
 
 pub enum Edited {
     Done,
-    // Number 12.
-    NoPosition,
-    // Number 13.
-    NoCharacter,
+    // The number.
+    Refused(u8),
 }
 
 // Whether each symbol lands on a character position.
@@ -77,10 +75,10 @@ pub fn edit(s: &mut [u8], address: usize, symbols: &[u8]) -> Edited
     ensures { λ r. ⌜ Edits (now (s .entry)) address (now (symbols .entry)) r (now (s .exit)) ⌝ }
 {
     if !addressed(s, address, symbols) {
-        return Edited::NoPosition;
+        return Edited::Refused(12);
     }
     if !all_characters(symbols) {
-        return Edited::NoCharacter;
+        return Edited::Refused(13);
     }
     if address <= s.len() {
         lay(&mut s[address..], symbols);

@@ -24,10 +24,8 @@ pub struct Values {
 }
 
 pub enum Stripped {
-    // Number 10.
-    NoContent,
-    // Number 2.
-    Short,
+    // The number.
+    Refused(u8),
     // The strip's length.
     Written(usize),
 }
@@ -132,7 +130,7 @@ pub fn put_strip(s: &[u8], values: Values, out: &mut [u8]) -> Stripped
     ensures { λ r. ⌜ Puts values (now (s .entry)) (now (out .entry)) r (now (out .exit)) ⌝ }
 {
     if out.len() / 3 < s.len() {
-        return Stripped::Short;
+        return Stripped::Refused(2);
     }
     Stripped::Written(write(s, values, out))
 }
@@ -142,12 +140,12 @@ pub fn write_strip(s: &[u8], values: Values, out: &mut [u8]) -> Stripped
     ensures { λ r. ⌜ Strips values (now (s .entry)) (now (out .entry)) r (now (out .exit)) ⌝ }
 {
     if !is_content(s) {
-        return Stripped::NoContent;
+        return Stripped::Refused(10);
     }
     let mut whole = [0u8; 3 * MESSAGE];
     let n = write(s, values, &mut whole);
     if out.len() < n {
-        return Stripped::Short;
+        return Stripped::Refused(2);
     }
     lay(out, &whole[0..n]);
     Stripped::Written(n)

@@ -12,8 +12,8 @@ ghost use Rattle.content.specs.Update.{Laying, Updates, fitted, next-of}
 pub enum Updated {
     // How many field positions the content has.
     Laid(usize),
-    // Number 13.
-    NoCharacter,
+    // The number.
+    Refused(u8),
 }
 
 // The part of a text from a character on; nothing behind its end.
@@ -90,7 +90,7 @@ pub fn update(s: &mut [u8], text: &[u8], from: usize) -> Updated
     ensures { λ r. ⌜ Updates (now (s .entry)) (now (text .entry)) from r (now (s .exit)) ⌝ }
 {
     if !all_characters(text) {
-        return Updated::NoCharacter;
+        return Updated::Refused(13);
     }
     Updated::Laid(lay_text(s, text, from))
 }

@@ -1,32 +1,39 @@
 -- Why edits and updates change only what they address: an accepted 42h puts the edited message on its jet, an accepted update the updated
 -- messages on the jets of head 1, and the laws of contents say which bytes these change.
-use Prim.Native.Nat.{ℕ, _+_, _≤_, _<_}
+use Prim.Native.Nat.{ℕ, zero, suc, _+_, _-_, _≤_, _<_}
 use mathlib.Core.Bool.{Bool, true, false}
-use mathlib.Core.List.{List}
+use mathlib.Core.List.{List, []}
 use mathlib.Core.Path.{_≡_, refl, sym, subst, ap, _∙_}
 use native.Mathlib.Omega.{arith}
-use borrow.Author.Tests.{eqb-true, eqb-false, leb-false, ltb-false}
+use borrow.Author.Tests.{eqb-true, eqb-false, leb-true, leb-false, ltb-true, ltb-false}
 use lib.Dec.{eqb, leb, ltb}
 use lib.ListN.{length, getD, take, drop, length-set}
 use Rattle.frame.specs.Ground.{both, all}
 use Rattle.frame.specs.Receive.{received}
 use Rattle.frame.specs.declared.receive.Received.the-variants.{Update, Frame}
-use Rattle.frame.proofs.Ground.{within-true}
+use Rattle.frame.proofs.Ground.{both-true, within-true}
 use Rattle.content.specs.Byte.{all-characters}
 use Rattle.content.specs.Machine.{start}
-use Rattle.content.specs.Position.{marks, is-field-position}
+use Rattle.content.specs.Content.{verdict}
+use Rattle.content.specs.Position.{field-positions, is-field-position, marks}
 use Rattle.content.specs.Edit.{replaced}
-use Rattle.content.specs.Update.{laid}
+use Rattle.content.specs.Marks.{tree-letters, tree-marks}
+use Rattle.content.specs.Tree.{tree-of}
+use Rattle.content.specs.Update.{fitted, laid}
+use Rattle.content.specs.declared.position.Mark.{Mark}
+use Rattle.content.specs.declared.test.Verdict.the-variants.{Good}
 use Rattle.content.specs.declared.position.Mark.the-variants.{Structure}
-use Rattle.content.proofs.ChangeLaws.{edit-elsewhere, edit-keeps-length, update-elsewhere, update-keeps-length}
-use Rattle.printer.specs.Jet.{Jet, message}
-use Rattle.printer.specs.State.{Printer, jet-at, with-jet, printer-of, valid-state}
+use Rattle.content.proofs.ChangeLaws.{edit-addresses, edit-elsewhere, edit-keeps-length, marks-of-content, positions-of-content, update-elsewhere, update-keeps-length, update-letters}
+use Rattle.content.proofs.Laying.{fitted-append, fitted-none}
+use Rattle.printer.specs.Jet.{Jet, has-message, message}
+use Rattle.printer.specs.State.{Printer, jet-at, with-jet, printer-of, valid, valid-state}
 use Rattle.printer.specs.Order.{Order, given, jet-number}
 use Rattle.printer.specs.Change.{address-in, edited-jet, positions, updated-jet, first-of-head, second-of-head, edit-message, update-fields, updated-head}
 use Rattle.printer.specs.Receive.{Outcome, outcome, obeyed, done, order}
 use Rattle.printer.specs.OrderLaws.{numbered}
-use Rattle.printer.specs.Demands.{full, SameButMessage, Edited, EditsOnlyAddressed, Updated, UpdatesOnlyFields}
-use Rattle.printer.proofs.Valid.{on-row, four-jets}
+use Rattle.printer.specs.Demands.{full, SameButMessage, letters, Edited, EditsOnlyAddressed, Updated, UpdatesOnlyFields}
+use Rattle.printer.proofs.PrintLaws.{content-good, none-empty}
+use Rattle.printer.proofs.Valid.{on-row, four-jets, jet-content, valid-at, valid-printer}
 use Rattle.printer.proofs.StateLaws.{jet-at-with-jet, jet-at-other, message-of}
 use Rattle.printer.proofs.OrderLaws.{obeyed-done, obeyed-refused, given-exactly, EditTests, edit-tells, characters-behind, update-tells}
 
@@ -80,6 +87,20 @@ head-each R p text jet four c k same new =
     (λ q. subst (λ (n : ℕ). R (jet-at p n) (updated-jet a text)) q (new a text c)) (λ _. same (jet-at p jet)))
 
 -- ---- An edit.
+-- No message has no positions.
+no-marks : (i : ℕ) → getD (marks start []) i Structure ≡ getD (tree-marks (tree-of [])) i Structure
+unfolding tree-of
+no-marks zero = refl
+no-marks (suc i) = refl
+
+no-count : field-positions [] ≡ length (tree-letters (tree-of []))
+unfolding tree-of
+no-count = refl
+
+no-letters : (text : List ℕ) → tree-letters (tree-of (laid text start [])) ≡ fitted (length (tree-letters (tree-of []))) text
+unfolding tree-of
+no-letters text = sym (fitted-none text)
+
 -- What is not among n places from a on stands before or behind them.
 outside : (a n i : ℕ) (A : Type 0) → both (leb a i) (ltb i (a + n)) ≡ false → (i < a → A) × (a + n ≤ i → A) → A
 outside a n i A e f = go (leb a i) refl e
@@ -88,9 +109,17 @@ outside a n i A e f = go (leb a i) refl e
     go true h e = f .1 (ltb-false i (a + n) e)
     go false h e = f .0 (leb-false a i h)
 
-pub edit-edits : (p : Printer) (d : List ℕ) → length (p .jets) ≡ 4 → EditTests p d → Edited p (edit-message p d .after) d
+-- What is among n places from a on stands so far behind the first.
+inside : (a n i : ℕ) → both (leb a i) (ltb i (a + n)) ≡ true → (k : ℕ) × (a + k ≡ i) × (k < n)
+inside a n i e =
+    let h = both-true (leb a i) (ltb i (a + n)) e in
+    let p = leb-true a i (h .0) in
+    let q = ltb-true i (a + n) (h .1) in
+    (i - a, omega arith, omega arith)
+
+pub edit-edits : (p : Printer) (d : List ℕ) → length (p .jets) ≡ 4 → valid p ≡ true → EditTests p d → Edited p (edit-message p d .after) d
 unfolding edit-message
-edit-edits p d four x =
+edit-edits p d four v x =
     let n = jet-number d in
     let r = on-row (p .model) n (x .there) in
     let s = message (jet-at p n) in
@@ -105,6 +134,10 @@ edit-edits p d four x =
       elsewhere = λ i o.
           ap (λ (l : List ℕ). getD l i 0) both
           ∙ outside (address-in d) (length (drop 3 d)) i _ o (edit-elsewhere s (address-in d) (drop 3 d) i (x .edits));
+      characters = λ i o.
+          let at = inside (address-in d) (length (drop 3 d)) i o in
+          let good = content-good s (jet-content _ (jet-at p n) (valid-at p n v (r .0)) (x .some)) .1 in
+          rw (at .1) at (edit-addresses s (address-in d) (drop 3 d) (at .0) good (x .edits) (at .2));
       as-long = ap length both ∙ edit-keeps-length s (address-in d) (drop 3 d) (x .edits);
       rest = record { general = ap (λ (j : Jet). j .general) here; counter = ap (λ (j : Jet). j .counter) here };
     }
@@ -124,12 +157,39 @@ edits-only-addressed m s n consumed v e z =
     let p = printer-of m in
     let d = take n (drop 3 s) in
     accepted-leaves (λ (q : Printer). Edited p q d) m s (edit-message p d) consumed (edit-numbered p d) (edit-heard m s n consumed v e) z
-    (λ t. edit-edits p d (four-jets m) (edit-tells p d t))
+    (λ t. edit-edits p d (four-jets m) (valid-printer m v) (edit-tells p d t))
 
 -- ---- An update.
-pub update-updates : (p : Printer) (text : List ℕ) → length (p .jets) ≡ 4 → all-characters text ≡ true → Updated p (update-fields p text .after)
+-- A jet has no message, or one that is read as good: so its tree says which positions an update changes, and what they become.
+module _ (p : Printer) (n : ℕ) (v : valid p ≡ true) (on : 1 ≤ n) where
+  message-case : (P : List ℕ → Type 0) → P [] → ((s : List ℕ) → verdict s ≡ Good → P s) → P (message (jet-at p n))
+  message-case P none some = go (has-message (jet-at p n)) refl
+    where
+      go : (t : Bool) → has-message (jet-at p n) ≡ t → P (message (jet-at p n))
+      go true h = some (message (jet-at p n)) (content-good (message (jet-at p n)) (jet-content _ (jet-at p n) (valid-at p n v on) h) .1)
+      go false h = subst P (sym (none-empty (jet-at p n) h)) none
+
+  same-marks : (i : ℕ) → getD (marks start (message (jet-at p n))) i Structure ≡ getD (tree-marks (tree-of (message (jet-at p n)))) i Structure
+  same-marks =
+      message-case (λ (s : List ℕ). (i : ℕ) → getD (marks start s) i Structure ≡ getD (tree-marks (tree-of s)) i Structure) no-marks
+      (λ s e i. ap (λ (l : List Mark). getD l i Structure) (marks-of-content s e))
+
+  same-count : positions (jet-at p n) ≡ length (tree-letters (tree-of (message (jet-at p n))))
+  same-count = message-case (λ (s : List ℕ). field-positions s ≡ length (tree-letters (tree-of s))) no-count positions-of-content
+
+  letters-laid :
+      (text : List ℕ) → all-characters text ≡ true →
+      tree-letters (tree-of (message (updated-jet (jet-at p n) text))) ≡ fitted (length (tree-letters (tree-of (message (jet-at p n))))) text
+  letters-laid text c =
+      ap (λ (l : List ℕ). tree-letters (tree-of l)) (message-of (jet-at p n) (laid text start (message (jet-at p n))))
+      ∙ message-case (λ (s : List ℕ). tree-letters (tree-of (laid text start s)) ≡ fitted (length (tree-letters (tree-of s))) text)
+      (no-letters text) (λ s e. update-letters s text e c)
+
+pub update-updates :
+    (p : Printer) (text : List ℕ) → length (p .jets) ≡ 4 → valid p ≡ true → all-characters text ≡ true →
+    Updated p (update-fields p text .after) text
 unfolding update-fields
-update-updates p text four c =
+update-updates p text four v c =
     record {
       model = refl;
       clock = refl;
@@ -137,9 +197,26 @@ update-updates p text four c =
           let r = within-true 3 4 jet w in
           jet-at-other first-put 2 jet _ (omega arith) (omega arith) (λ e. omega arith)
           ∙ jet-at-other p 1 jet _ (omega arith) (omega arith) (λ e. omega arith);
-      elsewhere = λ jet i w.
-          head-each Elsewhere p text jet four c (within-true 1 2 jet w .0) (λ j i e. refl)
-          (λ j t _ i e. ap (λ (l : List ℕ). getD l i 0) (message-of j (laid t start (message j))) ∙ update-elsewhere (message j) t i e) i;
+      elsewhere = λ jet i w e.
+          let on = within-true 1 2 jet w .0 in
+          head-each Elsewhere p text jet four c on (λ j i e. refl)
+          (λ j t _ i e. ap (λ (l : List ℕ). getD l i 0) (message-of j (laid t start (message j))) ∙ update-elsewhere (message j) t i e) i
+          (ap is-field-position (same-marks p jet v on i) ∙ e);
+      lands =
+          let behind = drop (positions (first-of-head p)) text in
+          let one : jet-at (updated-head p text) 1 ≡ updated-jet (first-of-head p) text =
+          jet-at-other first-put 2 1 _ (omega arith) (omega arith) (λ e. omega arith) ∙ jet-at-with-jet p 1 _ (omega arith) (omega arith) in
+          let two : jet-at (updated-head p text) 2 ≡ updated-jet (second-of-head p) behind =
+          jet-at-with-jet first-put 2 _ (omega arith) (omega (arith, many)) in
+          let cut : behind ≡ drop (length (letters p 1)) text = ap (λ (n : ℕ). drop n text) (same-count p 1 v (omega arith)) in
+          rw (
+            one,
+            two,
+            letters-laid p 1 v (omega arith) text c,
+            letters-laid p 2 v (omega arith) behind (characters-behind (positions (first-of-head p)) text c),
+            cut,
+          )
+          (sym (fitted-append (length (letters p 1)) (length (letters p 2)) text));
       as-long = λ jet w.
           head-each (λ (j k : Jet). length (message k) ≡ length (message j)) p text jet four c (within-true 1 4 jet w .0) (λ j. refl)
           (λ j t _. ap length (message-of j (laid t start (message j))) ∙ update-keeps-length (message j) t);
@@ -150,6 +227,9 @@ update-updates p text four c =
   where
     first-put : Printer
     first-put = with-jet p 1 (updated-jet (first-of-head p) text)
+
+    many : length (first-put .jets) ≡ length (p .jets)
+    many = length-set (p .jets) 0 (updated-jet (first-of-head p) text)
 
     -- A jet's message, before and after.
     Elsewhere : Jet → Jet → Type 0
@@ -169,5 +249,5 @@ pub updates-only-fields : UpdatesOnlyFields
 updates-only-fields m s n consumed v e z =
     let p = printer-of m in
     let text = take n (drop 1 s) in
-    accepted-leaves (Updated p) m s (update-fields p text) consumed (update-numbered p text) (update-heard m s n consumed v e) z
-    (λ t. update-updates p text (four-jets m) (update-tells p text t))
+    accepted-leaves (λ (q : Printer). Updated p q text) m s (update-fields p text) consumed (update-numbered p text) (update-heard m s n consumed v e) z
+    (λ t. update-updates p text (four-jets m) (valid-printer m v) (update-tells p text t))

@@ -9,16 +9,17 @@ use borrow.Rule.Slice.PartMut.{midOf, putMid, put-same}
 use lib.Dec.{eqb}
 use lib.ListN.{length, getD, take, drop, set, length-append, length-take, length-drop, take-append-drop, drop-of-length-le}
 use lib.Seq.{length-take-le, drop-drop, take-add, take-at, take-all, take-take, drop-append-le, getD-take, getD-drop}
-use Rattle.frame.specs.Ground.{pick, over}
+use Rattle.frame.specs.Ground.{Test, all, checked, first-failing, over, pick}
 use Rattle.frame.specs.Wire.{word}
 use Rattle.frame.specs.Build.{Lays}
-use Rattle.frame.proofs.Ground.{length-over, over-over, lent-tail, tail-back, laid-behind}
+use Rattle.frame.proofs.Ground.{checked-all, checked-refuses, length-over, over-over, lent-tail, tail-back, laid-behind}
 use Rattle.content.specs.Machine.{Mode, start, step}
 use Rattle.content.specs.Position.{mark-of, is-field-position, field-positions-from, field-positions}
-use Rattle.content.specs.Edit.{Edits, edited, replaced, bytes-after, number}
+use Rattle.content.specs.Edit as edits
+use Rattle.content.specs.Edit.{Edits, edit-tests, edited, replaced, number}
 use Rattle.content.specs.Update.{laid}
 use Rattle.content.specs.declared.edit.Edited.{Edited}
-use Rattle.content.specs.declared.edit.Edited.the-variants.{Done, NoPosition, NoCharacter}
+use Rattle.content.specs.declared.edit.Edited.the-variants.{Done}
 use Rattle.printer.specs.Number.{number-of, in-bytes}
 use Rattle.printer.specs.Counter.{Counter, set-to, counted, counter-size, counter-of, counter-bytes}
 use Rattle.printer.specs.Jet.{message, parameters, jet-size, jet-of, jet-bytes, with-message, with-parameters, counted-jet}
@@ -161,24 +162,32 @@ module _ (b : List ℕ) (full : length b ≡ jet-size) (f : Bytes b) where
   updated-left text {last} e h kept p =
       message-left last e h kept ∙ ap (λ (l : List ℕ). jet-bytes (with-message (jet-of b) l)) (p ∙ ap (laid text start) (message-lent b e h))
 
-  -- An edit changes the message where it is done, and nothing where it is refused.
-  edited-case : (address : ℕ) (symbols last : List ℕ) (x : Edited) {n : ℕ} → n ≡ jet-of b .length → jet-of b .length ≤ 512
-      → length last ≡ length (midOf 2 (2 + n - 2) b) → last ≡ bytes-after x (midOf 2 (2 + n - 2) b) address symbols
-      → putMid 2 (2 + n - 2) b last ≡ pick (eqb (number x) 0) (jet-bytes (edited-jet (jet-of b) address symbols)) b
-  edited-case address symbols last Done e h kept p =
-      message-left last e h kept
-      ∙ ap (λ (l : List ℕ). jet-bytes (with-message (jet-of b) l)) (p ∙ ap (λ (l : List ℕ). replaced l address symbols) (message-lent b e h))
-  edited-case address symbols last NoPosition {n} e h kept p = ap (putMid 2 (2 + n - 2) b) p ∙ put-same 2 (2 + n - 2) b
-  edited-case address symbols last NoCharacter {n} e h kept p = ap (putMid 2 (2 + n - 2) b) p ∙ put-same 2 (2 + n - 2) b
+  -- An edit changes the message where all its tests hold, and nothing where it is refused.
+  abbrev tests : ℕ → List ℕ → List Test
+  tests address symbols = edit-tests (message (jet-of b)) address symbols
 
-  pub edited-left : {n address : ℕ} {symbols last : List ℕ} {r x : Edited} → n ≡ jet-of b .length → jet-of b .length ≤ 512
-      → length last ≡ length (midOf 2 (2 + n - 2) b) → Edits (midOf 2 (2 + n - 2) b) address symbols r last → r ≡ x
-      → EditsJet (jet-of b) address symbols b (number x) (putMid 2 (2 + n - 2) b last)
-  edited-left {n} {address} {symbols} {last} {r} {x} e h kept p q =
-      record {
-        gives = ap number (sym q ∙ p .answer ∙ ap (λ (l : List ℕ). edited l address symbols) (message-lent b e h));
-        leaves = edited-case address symbols last x e h kept (p .bytes ∙ ap (λ (y : Edited). bytes-after y (midOf 2 (2 + n - 2) b) address symbols) q);
-      }
+  module _ {n address : ℕ} {symbols last : List ℕ} {r : Edited} (e : n ≡ jet-of b .length) (h : jet-of b .length ≤ 512)
+      (kept : length last ≡ length (midOf 2 (2 + n - 2) b)) (p : Edits (midOf 2 (2 + n - 2) b) address symbols r last) where
+    answers : r ≡ checked (tests address symbols) edits.refused Done
+    unfolding edited
+    answers = p .answer ∙ ap (λ (l : List ℕ). edited l address symbols) (message-lent b e h)
+
+    leaves : (t : Bool) → all (tests address symbols) ≡ t → putMid 2 (2 + n - 2) b last ≡ pick t (jet-bytes (edited-jet (jet-of b) address symbols)) b
+    leaves true t =
+        let done = answers ∙ checked-all (tests address symbols) edits.refused Done t in
+        let new : last ≡ replaced (message (jet-of b)) address symbols = p .bytes ∙ rw (done, message-lent b e h) in
+        message-left last e h kept ∙ ap (λ (l : List ℕ). jet-bytes (with-message (jet-of b) l)) new
+    leaves false t =
+        let refused = answers ∙ (checked-refuses (tests address symbols) t) .gives edits.refused Done in
+        let same : last ≡ midOf 2 (2 + n - 2) b = p .bytes ∙ rw refused in
+        ap (putMid 2 (2 + n - 2) b) same ∙ put-same 2 (2 + n - 2) b
+
+    pub edited-left : {x : Edited} → r ≡ x → EditsJet (jet-of b) address symbols b (number x) (putMid 2 (2 + n - 2) b last)
+    edited-left q =
+        record {
+          gives = ap number (sym q) ∙ p .first ∙ ap (λ (l : List ℕ). first-failing (edit-tests l address symbols)) (message-lent b e h);
+          leaves = leaves (all (tests address symbols)) refl;
+        }
 
   -- Another message, of any length.
   pub laid-left : {s last : List ℕ} {r : Bool} → length s ≤ 512

@@ -14,7 +14,7 @@ use Rattle.content.specs.Byte.{is-character, all-characters}
 use Rattle.content.specs.Content.{is-content}
 use Rattle.content.specs.Machine.{start}
 use Rattle.content.specs.Position.{marks}
-use Rattle.content.specs.Edit.{addressed, edited, replaced}
+use Rattle.content.specs.Edit.{edit-tests, edited, refused, replaced}
 use Rattle.content.specs.Update.{laid}
 use Rattle.content.specs.declared.edit.Edited.the-variants.{Done}
 use Rattle.content.proofs.ChangeLaws.{edit-stays-content, update-stays-content}
@@ -134,9 +134,7 @@ unfolding edit-message edited
 edit-tells p d t =
     let a = both-true (has-jet (p .model) (jet-number d)) _ t in
     let b = both-true (has-message (jet-in p d)) _ (a .1) in
-    let c = both-true (addressed (drop 3 d) (drop (address-in d) (marks start (message (jet-in p d))))) _ (b .1) in
-    let e = both-true (all-characters (drop 3 d)) true (c .1) in
-    record { there = a .0; some = b .0; edits = rw (c .0, e .0) }
+    record { there = a .0; some = b .0; edits = checked-all (edit-tests (message (jet-in p d)) (address-in d) (drop 3 d)) refused Done (b .1) }
 
 -- ---- Valid states stay valid.
 -- An order that puts a valid jet in the place of one that the printer has.

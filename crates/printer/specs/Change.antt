@@ -2,17 +2,16 @@
 use Prim.Native.Nat.{ℕ, _+_}
 use mathlib.Core.Bool.{Bool}
 use mathlib.Core.List.{List, [], _∷_}
-use lib.Dec.{eqb, ltb}
+use lib.Dec.{ltb}
 use lib.ListN.{getD, take, drop}
 use mathlib.Core.Path.{_≡_}
-use Rattle.frame.specs.Ground.{pick, test}
+use Rattle.frame.specs.Ground.{all, first-failing, pick, test}
 use Rattle.frame.specs.Wire.{word}
-use Rattle.content.specs.Byte.{all-characters}
 use Rattle.content.specs.Machine.{start}
 use Rattle.content.specs.Content.{is-content}
-use Rattle.content.specs.Position.{marks, field-positions}
-use Rattle.content.specs.Edit.{addressed, edited, number, replaced}
-use Rattle.content.specs.Update.{laid}
+use Rattle.content.specs.Position.{field-positions}
+use Rattle.content.specs.Edit.{edit-tests, replaced}
+use Rattle.content.specs.Update.{laid, update-tests}
 use Rattle.printer.specs.Jet.{Jet, head-jet, has-message, message, good-parameters, with-message, with-parameters, jet-bytes}
 use Rattle.printer.specs.State.{Printer, jet-at, with-jet}
 use Rattle.printer.specs.Order.{Order, change, on-printer, jet-in, with-jet-in}
@@ -57,9 +56,7 @@ edit-message p d =
     change
     (test (on-printer p d) 8
     ∷ test (has-message (jet-in p d)) 11
-    ∷ test (addressed (drop 3 d) (drop (address-in d) (marks start (message (jet-in p d))))) 12
-    ∷ test (all-characters (drop 3 d)) 13
-    ∷ [])
+    ∷ edit-tests (message (jet-in p d)) (address-in d) (drop 3 d))
     (with-jet-in p d (edited-jet (jet-in p d) (address-in d) (drop 3 d)))
 
 -- 01, What an accepted frame does: "An update lays its characters over the character positions of external fields on head 1, jets
@@ -86,10 +83,10 @@ updated-head p text =
 unfoldable pub update-fields : Printer → List ℕ → Order
 update-fields p text =
     change
-    (test (ltb 0 (positions (first-of-head p) + positions (second-of-head p))) 11 ∷ test (all-characters text) 13 ∷ [])
+    (test (ltb 0 (positions (first-of-head p) + positions (second-of-head p))) 11 ∷ update-tests text)
     (updated-head p text)
 
--- What 42h makes of a jet's bytes: the edit's number, and the jet with its bytes replaced where that is 0.
+-- What 42h makes of a jet's bytes: the edit's number, and the jet with its bytes replaced where all tests hold.
 pub record EditsJet (j : Jet) (address : ℕ) (symbols b : List ℕ) (r : ℕ) (b′ : List ℕ) : Type 0 where
-  pub gives : r ≡ number (edited (message j) address symbols)
-  pub leaves : b′ ≡ pick (eqb r 0) (jet-bytes (edited-jet j address symbols)) b
+  pub gives : r ≡ first-failing (edit-tests (message j) address symbols)
+  pub leaves : b′ ≡ pick (all (edit-tests (message j) address symbols)) (jet-bytes (edited-jet j address symbols)) b

@@ -13,11 +13,12 @@ use Rattle.frame.specs.declared.build.Built.the-variants.{Written}
 use Rattle.frame.specs.Receive.{received}
 use Rattle.frame.specs.declared.receive.Received.{Received}
 use Rattle.frame.specs.declared.receive.Received.the-variants.{Partial, Refused, Misfit, Enquiry, Update, Frame}
-use Rattle.content.specs.Machine.{start}
 use Rattle.content.specs.Content.{is-content}
-use Rattle.content.specs.Position.{marks, is-field-position}
+use Rattle.content.specs.Position.{is-field-position, is-position}
 use Rattle.content.specs.Grammar.{Tree, encode, good-tree, outline, resolved, shape}
+use Rattle.content.specs.Marks.{tree-letters, tree-marks}
 use Rattle.content.specs.Tree.{tree-of}
+use Rattle.content.specs.Update.{fitted}
 use Rattle.content.specs.declared.position.Mark.the-variants.{Structure}
 use Rattle.printer.specs.Clock.{clock-text, entries, table-text}
 use Rattle.printer.specs.Counter.{counter-text}
@@ -244,7 +245,7 @@ pub record SameButMessage (j k : Jet) : Type 0 where
   pub counter : k .counter ≡ j .counter
 
 -- "edits and updates change only the characters they address": an accepted 42h leaves type, clock and every other jet, and of its own jet
--- all but the bytes from the address on, as many as there are symbols.
+-- all but the bytes from the address on, as many as there are symbols; and these are characters of the message's tree.
 pub record Edited (p q : Printer) (d : List ℕ) : Type 0 where
   pub model : q .model ≡ p .model
   pub clock : q .clock ≡ p .clock
@@ -252,6 +253,9 @@ pub record Edited (p q : Printer) (d : List ℕ) : Type 0 where
   pub elsewhere :
       (i : ℕ) → both (leb (address-in d) i) (ltb i (address-in d + length (drop 3 d))) ≡ false →
       getD (message (jet-at q (jet-number d))) i 0 ≡ getD (message (jet-at p (jet-number d))) i 0
+  pub characters :
+      (i : ℕ) → both (leb (address-in d) i) (ltb i (address-in d + length (drop 3 d))) ≡ true →
+      is-position (getD (tree-marks (tree-of (message (jet-at p (jet-number d))))) i Structure) ≡ true
   pub as-long : length (message (jet-at q (jet-number d))) ≡ length (message (jet-at p (jet-number d)))
   pub rest : SameButMessage (jet-at p (jet-number d)) (jet-at q (jet-number d))
 
@@ -263,16 +267,21 @@ EditsOnlyAddressed =
     outcome m (full s) .number ≡ 0 →
     Edited (printer-of m) (outcome m (full s) .printer) (take n (drop 3 s))
 
--- An accepted update leaves type, clock and head 2, and on head 1 all but the bytes of the messages at character positions of external
--- fields.
-pub record Updated (p q : Printer) : Type 0 where
+-- The characters of the fields of a jet's message, in order.
+abbrev pub letters : Printer → ℕ → List ℕ
+letters p jet = tree-letters (tree-of (message (jet-at p jet)))
+
+-- An accepted update leaves type, clock and head 2, and on head 1 all but the characters of external fields: these, jet 1 before jet 2,
+-- become the text, cut or filled with spaces.
+pub record Updated (p q : Printer) (text : List ℕ) : Type 0 where
   pub model : q .model ≡ p .model
   pub clock : q .clock ≡ p .clock
   pub second-head : (jet : ℕ) → within 3 4 jet ≡ true → jet-at q jet ≡ jet-at p jet
   pub elsewhere :
       (jet i : ℕ) → within 1 2 jet ≡ true →
-      is-field-position (getD (marks start (message (jet-at p jet))) i Structure) ≡ false →
+      is-field-position (getD (tree-marks (tree-of (message (jet-at p jet)))) i Structure) ≡ false →
       getD (message (jet-at q jet)) i 0 ≡ getD (message (jet-at p jet)) i 0
+  pub lands : letters q 1 ++ letters q 2 ≡ fitted (length (letters p 1) + length (letters p 2)) text
   pub as-long : (jet : ℕ) → within 1 4 jet ≡ true → length (message (jet-at q jet)) ≡ length (message (jet-at p jet))
   pub rest : (jet : ℕ) → within 1 4 jet ≡ true → SameButMessage (jet-at p jet) (jet-at q jet)
 
@@ -282,7 +291,7 @@ UpdatesOnlyFields =
     valid-state m ≡ true →
     received s ≡ Update n consumed →
     outcome m (full s) .number ≡ 0 →
-    Updated (printer-of m) (outcome m (full s) .printer)
+    Updated (printer-of m) (outcome m (full s) .printer) (take n (drop 1 s))
 
 -- "a sound print frame is refused exactly when a jet has no message or no parameters, and otherwise every strip runs to its end mark with
 -- those same lines and blocks, each item replaced by what it stands for then."

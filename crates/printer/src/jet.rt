@@ -210,9 +210,8 @@ pub(crate) fn edit_jet(jet: &mut [u8], address: usize, symbols: &[u8]) -> u8
     let end = CONTENT_AT + message_length(jet);
     let answer = edit(&mut jet[CONTENT_AT..end], address, symbols);
     match answer {
-        Edited::NoPosition => 12,
-        Edited::NoCharacter => 13,
         Edited::Done => 0,
+        Edited::Refused(number) => number,
     }
 }
 

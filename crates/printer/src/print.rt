@@ -45,7 +45,7 @@ fn print_jet(entries: [u8; 24], jet: &[u8], out: &mut [u8]) -> usize
     let written = put_strip(message(jet), values(entries, jet), out);
     match written {
         Stripped::Written(k) => k,
-        _ => 0,
+        Stripped::Refused(_) => 0,
     }
 }
 

@@ -100,8 +100,7 @@ fn values() -> Values {
 
 fn show_stripped(out: &[u8], stripped: Stripped) {
     match stripped {
-        Stripped::NoContent => show_refused(out, 10),
-        Stripped::Short => show_refused(out, 2),
+        Stripped::Refused(number) => show_refused(out, number),
         Stripped::Written(n) => show_written(out, n),
     }
 }
@@ -133,8 +132,7 @@ pub(crate) fn show_positions(s: &[u8]) {
 fn edited_number(edited: Edited) -> u8 {
     match edited {
         Edited::Done => 0,
-        Edited::NoPosition => 12,
-        Edited::NoCharacter => 13,
+        Edited::Refused(number) => number,
     }
 }
 
@@ -169,8 +167,9 @@ pub(crate) fn show_update(out: &mut [u8], from: usize, k: usize, s: &[u8]) {
             text(b" ");
             count(n);
         }
-        Updated::NoCharacter => {
-            text(b" refused 13");
+        Updated::Refused(refused) => {
+            text(b" refused");
+            number(refused);
         }
     }
     bytes(front(out, size));

@@ -18,9 +18,10 @@ use Rattle.content.specs.Byte.{all-characters}
 use Rattle.content.specs.Edit.{Edits, addressed, edited, replaced}
 use Rattle.content.specs.Machine.{start}
 use Rattle.content.specs.Position.{marks, is-position}
-use Rattle.content.specs.declared.edit.Edited.the-variants.{Done, NoPosition, NoCharacter}
+use Rattle.content.specs.declared.edit.Edited.the-variants.{Done, Refused}
 use Rattle.content.specs.declared.position.Mark.{Mark}
 use Rattle.content.proofs.Run.{length-marks}
+use Rattle.content.proofs.Told.{edit-told}
 use Rattle.content.proofs.edit.edit.Statement.{statement}
 use Rattle.content.proofs.edit.edit.Tie as tie
 
@@ -30,17 +31,17 @@ on-marks (x ∷ symbols) [] e = let z : _≡_ {A = ℕ} 0 1 = cc in omega arith
 on-marks (x ∷ symbols) (m ∷ ms) e = omega (arith, on-marks symbols ms (both-true (is-position m) (addressed symbols ms) e .1))
 
 module _ (s : List ℕ) (address : ℕ) (symbols : List ℕ) {t : Bool} (e : t ≡ addressed symbols (drop address (marks start s))) where
-  no-position : t ≡ false → Edits s address symbols NoPosition s
+  no-position : t ≡ false → Edits s address symbols (Refused 12) s
   unfolding edited
-  no-position f = record { answer = rw (← e, f); bytes = refl }
+  no-position f = edit-told s address symbols (rw (← e, f)) refl
 
-  no-character : {u : Bool} → t ≡ true → u ≡ all-characters symbols → u ≡ false → Edits s address symbols NoCharacter s
+  no-character : {u : Bool} → t ≡ true → u ≡ all-characters symbols → u ≡ false → Edits s address symbols (Refused 13) s
   unfolding edited
-  no-character f g h = record { answer = rw (← e, f, ← g, h); bytes = refl }
+  no-character f g h = edit-told s address symbols (rw (← e, f, ← g, h)) refl
 
   done : {u : Bool} {after : List ℕ} → t ≡ true → u ≡ all-characters symbols → u ≡ true → after ≡ replaced s address symbols → Edits s address symbols Done after
   unfolding edited
-  done f g h p = record { answer = rw (← e, f, ← g, h); bytes = p }
+  done f g h p = edit-told s address symbols (rw (← e, f, ← g, h)) p
 
   room : t ≡ true → length symbols ≤ length s - address
   room f = omega (arith, on-marks symbols (drop address (marks start s)) (sym e ∙ f), length-drop address (marks start s), length-marks start s)

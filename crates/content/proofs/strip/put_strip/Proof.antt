@@ -4,28 +4,28 @@ use mathlib.Core.List.{List}
 use mathlib.Core.Path.{_≡_, refl, ap}
 use native.Mathlib.Omega.{arith}
 use borrow.Author.Needs.{needs}
-use borrow.Author.Tests.{lt-ltb, le-ltb}
+use borrow.Author.Tests.{lt-leb, le-leb}
 use lib.ListN.{length}
 use Rattle.frame.specs.Ground.{over}
-use Rattle.content.specs.Strip.{Puts, put-stripped, strip}
-use Rattle.content.specs.declared.strip.Stripped.the-variants.{Short, Written}
+use Rattle.content.specs.Strip.{Puts, put-tests, strip, stripped}
+use Rattle.content.specs.declared.strip.Stripped.the-variants.{Refused, Written}
 use Rattle.content.specs.declared.strip.Values.{Values}
 use Rattle.content.proofs.Room.{strip-fits}
-use borrow.Author.Needs.{needs}
+use Rattle.content.proofs.Told.{strip-told}
 use Rattle.content.proofs.strip.put_strip.Statement.{statement}
 use Rattle.content.proofs.strip.put_strip.Tie as tie
 
 module _ (v : Values) (s before : List ℕ) where
-  short : length before / 3 < length s → Puts v s before Short before
-  unfolding put-stripped
-  short h = record { answer = rw (lt-ltb (length before) (3 * length s) (omega arith)); buffer = refl }
+  short : length before / 3 < length s → Puts v s before (Refused 2) before
+  unfolding stripped
+  short h = strip-told (put-tests s (length before)) v s before (rw (lt-leb (3 * length s) (length before) (omega arith))) refl
 
   fits : length (v .digits) ≡ 9 → length s ≤ length before / 3 → length (strip v s) ≤ length before
   fits n h = omega (arith, strip-fits v n s)
 
   written : {n : ℕ} {after : List ℕ} → length s ≤ length before / 3 → (n ≡ length (strip v s)) × (after ≡ over (strip v s) before) → Puts v s before (Written n) after
-  unfolding put-stripped
-  written h p = record { answer = rw (le-ltb (length before) (3 * length s) (omega arith)) (ap Written (p .0)); buffer = p .1 }
+  unfolding stripped
+  written h p = strip-told (put-tests s (length before)) v s before (rw (le-leb (3 * length s) (length before) (omega arith)) (ap Written (p .0))) (p .1)
 
 returns : tie.Need-returns
 returns c = short (c .before .before .before .args .values) (c .before .before .before .args .s .now) (c .before .before .before .args .out .now) (c .if1 .taken)

@@ -6,19 +6,19 @@ use mathlib.Core.List.{List, []}
 use mathlib.Core.Path.{_≡_, refl, sym, _∙_, ap}
 use native.Mathlib.Omega.{arith}
 use borrow.Author.Needs.{needs}
-use borrow.Author.Tests.{not-true, not-false, leb-true, lt-ltb, le-ltb, le-leb}
+use borrow.Author.Tests.{not-true, not-false, leb-true, lt-leb, le-leb}
 use lib.Dec.{leb}
 use lib.ListN.{length, length-append, take, drop, replicate}
 use lib.Seq.{take-at}
 use Rattle.frame.specs.Build.{Lays}
 use Rattle.frame.specs.Ground.{over, pick}
 use Rattle.content.specs.Content.{is-content, is-good, longest-message, verdict}
-use Rattle.content.specs.Strip.{Strips, strip, stripped}
-use Rattle.content.specs.declared.strip.Stripped.the-variants.{NoContent, Short, Written}
+use Rattle.content.specs.Strip.{Strips, strip, strip-tests, stripped}
+use Rattle.content.specs.declared.strip.Stripped.the-variants.{Refused, Written}
 use Rattle.content.specs.declared.strip.Values.{Values}
 use Rattle.frame.proofs.Ground.{both-true}
 use Rattle.content.proofs.Room.{strip-fits}
-use borrow.Author.Needs.{needs}
+use Rattle.content.proofs.Told.{strip-told}
 use Rattle.content.proofs.strip.write_strip.Statement.{statement}
 use Rattle.content.proofs.strip.write_strip.Tie as tie
 
@@ -37,27 +37,25 @@ module _ (v : Values) (s : List ℕ) {t : Bool} (e : t ≡ is-content s) where
   fits : length (v .digits) ≡ 9 → t ≡ true → length (strip v s) ≤ 3 * longest-message
   fits n f = omega (arith, strip-fits v n s, few f)
 
-  refused : (before : List ℕ) → t ≡ false → Strips v s before NoContent before
+  refused : (before : List ℕ) → t ≡ false → Strips v s before (Refused 10) before
   unfolding stripped
-  refused before f = record { answer = rw (← e, f); buffer = refl }
+  refused before f = strip-told (strip-tests v s (length before)) v s before (rw (← e, f)) refl
 
   module _ (before : List ℕ) {n : ℕ} {whole : List ℕ} (f : t ≡ true) (p : (n ≡ length (strip v s)) × (whole ≡ over (strip v s) zeros)) where
-    short : length before < n → Strips v s before Short before
+    short : length before < n → Strips v s before (Refused 2) before
     unfolding stripped
-    short h = record { answer = rw (← e, f, ← p .0, lt-ltb (length before) n h); buffer = refl }
+    short h = strip-told (strip-tests v s (length before)) v s before (rw (← e, f, ← p .0, lt-leb n (length before) h)) refl
 
     written : {r : Bool} {after : List ℕ} → n ≤ length before → Lays before (take (n - 0) whole) r after → Strips v s before (Written n) after
     unfolding stripped
     written h l =
         let z : n - 0 ≡ n = omega arith in
         let q : take (n - 0) whole ≡ strip v s = rw z (ap (take n) (p .1)) ∙ take-at (strip v s) (drop (length (strip v s)) zeros) n (sym (p .0)) in
-        record {
-          answer = rw (← e, f, ← p .0, le-ltb (length before) n h);
-          buffer =
-              l .buffer
-              ∙ ap (λ (x : List ℕ). over (pick (leb (length x) (length before)) x []) before) q
-              ∙ ap (λ (b : Bool). over (pick b (strip v s) []) before) (le-leb (length (strip v s)) (length before) (omega (arith, h, p .0)));
-        }
+        strip-told (strip-tests v s (length before)) v s before
+        (rw (← e, f, ← p .0, le-leb n (length before) h))
+        (l .buffer
+        ∙ ap (λ (x : List ℕ). over (pick (leb (length x) (length before)) x []) before) q
+        ∙ ap (λ (b : Bool). over (pick b (strip v s) []) before) (le-leb (length (strip v s)) (length before) (omega (arith, h, p .0))))
 
 returns : tie.Need-returns
 returns c = refused (c .before .before .before .before .args .values) (c .before .before .before .before .args .s .now) (c .before .is-content .ensures) (c .before .before .before .before .args .out .now) (not-true (c .before .is-content .result) (c .if1 .taken))

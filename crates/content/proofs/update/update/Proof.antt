@@ -5,17 +5,25 @@ use borrow.Author.Needs.{needs}
 use borrow.Author.Tests.{not-true, not-false}
 use Rattle.content.specs.Update.{updated}
 use Rattle.content.specs.declared.update.Updated.the-variants.{Laid}
-use borrow.Author.Needs.{needs}
+use Rattle.content.proofs.Told.{update-told}
 use Rattle.content.proofs.update.update.Statement.{statement}
 use Rattle.content.proofs.update.update.Tie as tie
 
 returns : tie.Need-returns
 unfolding updated
-returns c = record { answer = rw (← c .before .all-characters .ensures, not-true (c .before .all-characters .result) (c .if1 .taken)); bytes = refl }
+returns c =
+    let p = c .before .all-characters in
+    let a = c .before .before .before .before .args in
+    update-told (a .s .now) (a .text .now) (a .from) (rw (← p .ensures, not-true (p .result) (c .if1 .taken))) refl
 
 returns-2 : tie.Need-returns-2
 unfolding updated
-returns-2 c = record { answer = rw (← c .before .before .before .before .before .all-characters .ensures, not-false (c .before .before .before .before .before .all-characters .result) (c .before .before .before .before .if1 .left)) (ap Laid (c .before .before .lay-text .ensures .answer)); bytes = c .before .before .lay-text .ensures .bytes }
+returns-2 c =
+    let p = c .before .before .before .before .before .all-characters in
+    let laid = c .before .before .lay-text .ensures in
+    let a = c .before .before .before .before .before .before .before .before .args in
+    update-told (a .s .now) (a .text .now) (a .from)
+    (rw (← p .ensures, not-false (p .result) (c .before .before .before .before .if1 .left)) (ap Laid (laid .answer))) (laid .bytes)
 
 pub update-spec : {M : Type 1} → statement M
 update-spec =

@@ -6,19 +6,15 @@ use mathlib.Core.Path.{_≡_, refl, _∙_}
 use borrow.Author.Needs.{needs}
 use borrow.Rule.Slice.PartMut.{midOf, putMid}
 use lib.ListN.{drop}
-use Rattle.frame.specs.Ground.{unless}
+use Rattle.frame.specs.Ground.{all}
 use Rattle.frame.proofs.Ground.{lent-tail}
-use Rattle.content.specs.Byte.{all-characters}
-use Rattle.content.specs.Machine.{start}
-use Rattle.content.specs.Position.{marks}
-use Rattle.content.specs.Edit.{addressed, edited, number}
-use Rattle.content.specs.declared.edit.Edited.the-variants.{Done, NoPosition, NoCharacter}
+use Rattle.content.specs.Edit.{edit-tests}
 use Rattle.printer.specs.Jet.{has-message, message, jet-size}
 use Rattle.printer.specs.State.{printer-of}
 use Rattle.printer.specs.Order.{jet-number, on-printer, jet-in, Obeys}
 use Rattle.printer.specs.Change.{address-in, edited-jet, edit-message, EditsJet}
 use Rattle.printer.proofs.Valid.{valid-size}
-use Rattle.printer.proofs.Orders.{denied, granted, here, past, end, holds, refused, obeyed}
+use Rattle.printer.proofs.Orders.{denied, granted, here, past, refused}
 use Rattle.printer.proofs.Part.{Stands, part-inside, part-size, part-jet, part-short, part-kept, part-written, not-named, named, stands}
 use Rattle.printer.proofs.change.edit_message.Statement.{statement}
 use Rattle.printer.proofs.change.edit_message.Tie as tie
@@ -27,17 +23,19 @@ module _ (m d : List ℕ) {at r : ℕ} {last : List ℕ} (jet : Stands m (jet-nu
     (some : has-message (jet-in (printer-of m) d) ≡ true)
     (e : EditsJet (jet-in (printer-of m) d) (address-in d) (drop 3 d) (midOf at (at + jet-size - at) m) r last) where
   edit-obeys : Obeys (edit-message (printer-of m) d) m r (putMid at (at + jet-size - at) m last)
-  unfolding edit-message edited
-  edit-obeys =
-      go (addressed (drop 3 d) (drop (address-in d) (marks start (message (jet-in (printer-of m) d))))) (all-characters (drop 3 d)) refl refl (e .gives)
+  unfolding edit-message
+  edit-obeys = go (all (edit-tests (message (jet-in (printer-of m) d)) (address-in d) (drop 3 d))) refl
     where
-      go : (b c : Bool) → addressed (drop 3 d) (drop (address-in d) (marks start (message (jet-in (printer-of m) d)))) ≡ b → all-characters (drop 3 d) ≡ c
-          → r ≡ number (unless b NoPosition (unless c NoCharacter Done)) → Obeys (edit-message (printer-of m) d) m r (putMid at (at + jet-size - at) m last)
-      go true true p q g =
-          rw g (obeyed (holds on (holds some (holds p (holds q end))))
-          (part-written jet (λ _. edited-jet (jet-in (printer-of m) d) (address-in d) (drop 3 d)) (e .leaves ∙ rw g)))
-      go true false p q g = rw (g, part-kept jet (e .leaves ∙ rw g)) (refused (past on (past some (past p (here q)))))
-      go false c p q g = rw (g, part-kept jet (e .leaves ∙ rw g)) (refused (past on (past some (here p))))
+      go : (t : Bool) → all (edit-tests (message (jet-in (printer-of m) d)) (address-in d) (drop 3 d)) ≡ t
+          → Obeys (edit-message (printer-of m) d) m r (putMid at (at + jet-size - at) m last)
+      go true t =
+          record {
+            number = rw (on, some) (e .gives);
+            state =
+                rw (on, some, t)
+                (part-written jet (λ _. edited-jet (jet-in (printer-of m) d) (address-in d) (drop 3 d)) (e .leaves ∙ rw t));
+          }
+      go false t = record { number = rw (on, some) (e .gives); state = rw (on, some, t) (part-kept jet (e .leaves ∙ rw t)) }
 
 jet : (c : tie.Else1) → let a = c .before .before .before .before .before .args in Stands (a .state .now) (jet-number (a .d .now)) (c .before .place-in .result)
 jet c = stands (c .before .place-in .ensures) (c .if1 .left) (valid-size _ (c .before .before .before .before .before .pre .0)) (c .before .before .before .before .slice-known .given)

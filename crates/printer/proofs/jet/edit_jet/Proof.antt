@@ -29,10 +29,7 @@ returns : tie.Need-returns
 returns c = left (c .before .before) (c .enum-told .given .1)
 
 returns-2 : tie.Need-returns-2
-returns-2 c = left (c .before .before) (c .enum-told2 .given .1)
-
-returns-3 : tie.Need-returns-3
-returns-3 c = left (c .before .before) (c .enum-told3 .given .1)
+returns-2 c = left (c .before .before .before) (c .before .answer .given .1)
 
 pub edit-jet-spec : {M : Type 1} → statement M
 edit-jet-spec =
@@ -47,9 +44,6 @@ edit-jet-spec =
     (λ c. search needs)
     (λ c. search needs)
     (λ c. search needs)
-    (λ c. search needs)
     returns
     (λ c. search needs)
-    returns-2
-    (λ c. search needs)
-    returns-3)
+    returns-2)

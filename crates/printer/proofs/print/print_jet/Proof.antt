@@ -1,24 +1,21 @@
 -- `printer::print::print_jet` meets its contract: a message has 512 bytes at the most, and so there is room for its strip.
 use Prim.Native.Nat.{ℕ, _*_, _≤_}
 use mathlib.Core.List.{List}
-use mathlib.Core.Logic.{_⊎_, ⊎-elim}
 use mathlib.Core.Path.{_≡_, refl, sym, _∙_, subst}
 use native.Mathlib.Omega.{arith}
 use borrow.Author.Needs.{needs}
-use borrow.Author.Tests.{le-ltb}
+use borrow.Author.Tests.{le-leb}
 use lib.ListN.{length, length-take}
-use Rattle.content.specs.Strip.{Puts, put-stripped}
+use Rattle.content.specs.Strip.{Puts, stripped}
 use Rattle.content.specs.declared.strip.Stripped.{Stripped}
-use Rattle.content.specs.declared.strip.Stripped.the-variants.{Written}
+use Rattle.content.specs.declared.strip.Stripped.the-variants.{Refused, Written}
 use Rattle.content.specs.declared.strip.Values.{Values}
 use Rattle.content.proofs.Room.{strip-fits}
-use Rattle.content.proofs.strip.Stripped.{the-type}
 use Rattle.printer.specs.Jet.{Jet, jet-of, message}
 use Rattle.printer.specs.Number.{digits}
 use Rattle.printer.specs.Print.{values, strip-of, PrintsJet}
 use Rattle.printer.proofs.print.print_jet.Statement.{statement}
 use Rattle.printer.proofs.print.print_jet.Tie as tie
-use denote.Enum.Declared.{tagOf}
 
 nine : (n : ℕ) → length (digits n) ≡ 9
 unfolding digits
@@ -30,8 +27,8 @@ module _ (es : List ℕ) (j : Jet) {v : Values} {s before after : List ℕ} {r :
 
   -- The answer is `Written`.
   told : r ≡ Written (length (strip-of es j))
-  unfolding put-stripped
-  told = p .answer ∙ rw (e, q, le-ltb (length before) (3 * length (message j)) (omega (arith, short)))
+  unfolding stripped
+  told = p .answer ∙ rw (e, q, le-leb (3 * length (message j)) (length before) (omega (arith, short)))
 
   prints : {k : ℕ} → r ≡ Written k → PrintsJet es j before k after
   prints {k} w =
@@ -42,8 +39,8 @@ module _ (es : List ℕ) (j : Jet) {v : Values} {s before after : List ℕ} {r :
         bytes = p .buffer ∙ rw (told, e, q);
       }
 
-  never-other : (tagOf the-type r ≡ 0) ⊎ (tagOf the-type r ≡ 1) → ⊥
-  never-other = subst (λ (t : Stripped). (tagOf the-type t ≡ 0) ⊎ (tagOf the-type t ≡ 1) → ⊥) (sym told) (⊎-elim (λ z. omega arith) (λ z. omega arith))
+  never-refused : {k : ℕ} → r ≡ Refused k → ⊥
+  never-refused w = let z : _≡_ {A = ℕ} 0 1 = cc told in omega arith
 
 returns : tie.Need-returns
 returns c =
@@ -54,9 +51,9 @@ returns c =
 
 returns-2 : tie.Need-returns-2
 returns-2 c =
-    let s = c .before .before .before .before .before .before .before .before .before in
+    let s = c .before .before .before .before .before .before .before .before .before .before in
     absurd
-    (never-other (s .args .entries) (jet-of (s .args .jet .now)) (c .before .before .before .before .before .values .ensures) (c .before .before .before .before .before .before .message .ensures) (s .pre .1) (s .pre .2) (c .before .before .before .put-strip .ensures) (c .match .keys2))
+    (never-refused (s .args .entries) (jet-of (s .args .jet .now)) (c .before .before .before .before .before .before .values .ensures) (c .before .before .before .before .before .before .before .message .ensures) (s .pre .1) (s .pre .2) (c .before .before .before .before .put-strip .ensures) (c .enum-told .given .1))
 
 pub print-jet-spec : {M : Type 1} → statement M
 print-jet-spec =
@@ -65,6 +62,7 @@ print-jet-spec =
     (λ c κs. search needs)
     (λ c κs. search needs)
     (λ c κs. search needs)
+    (λ c. search needs)
     (λ c. search needs)
     (λ c. search needs)
     returns
