@@ -11,12 +11,13 @@ use lib.Seq.{drop-drop, take-add, take-at, take-all, drop-append-add, drop-appen
 use Rattle.frame.specs.Ground.{over}
 use Rattle.frame.specs.Build.{Lays}
 use Rattle.frame.proofs.Ground.{drop-next, laid-behind, length-over}
-use Rattle.content.specs.Item.{behind, counted, token-at}
+use Rattle.content.specs.Item.{behind, counted, past, token-at}
 use Rattle.content.specs.Strip.{item-shows, put-at, strip, strip-from}
 use Rattle.content.specs.declared.byte.Kind.the-variants as kind
 use Rattle.content.specs.declared.item.Item.{Item}
 use Rattle.content.specs.declared.item.Place.{Place}
 use Rattle.content.specs.declared.item.Place.the-variants.{Content}
+use Rattle.content.specs.declared.item.Reader.{Reader}
 use Rattle.content.specs.declared.item.Seen.{Seen}
 use Rattle.content.specs.declared.item.Token.{Token}
 use Rattle.content.specs.declared.item.Token.the-variants as token
@@ -124,6 +125,12 @@ module _ {v : Values} {s before out : List ℕ} {to at : ℕ} {place : Place} {s
                 ∙ put-behind to (take to (strip v s)) d before (length-take-le to (strip v s) (w .passed))
                 ∙ ap (λ (l : List ℕ). over l before) (sym (next-taken to d rest (strip v s) shows) ∙ ap (λ (n : ℕ). take n (strip v s)) (sym (r .0)));
           }
+
+      -- The same to where the reader then stands.
+      pub wrote-past : (reader : Reader) {after : Reader} {k : ℕ} {last : List ℕ} → reader .seen ≡ seen → after ≡ past reader i next
+          → (k ≡ to + length (item-shows (v .digits) (v .entries) i (midOf at (next - at) s))) × (last ≡ put-at to (item-shows (v .digits) (v .entries) i (midOf at (next - at) s)) out)
+          → Wrote v s before last k (after .at) (after .place) (after .seen)
+      wrote-past reader q p r = rw p (wrote refl (ap (counted i) q) r)
 
     pub unfit : {p : ℕ} → t ≡ token.Unfit p → (to ≡ length (strip v s)) × (out ≡ over (strip v s) before)
     unfit {p} f =

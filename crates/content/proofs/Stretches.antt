@@ -10,13 +10,14 @@ use lib.Seq.{drop-drop}
 use Rattle.frame.specs.Ground.{pick, both}
 use Rattle.frame.proofs.Ground.{never, drop-next}
 use Rattle.content.specs.Edit.{addressed}
-use Rattle.content.specs.Item.{behind, counted, piece-at}
+use Rattle.content.specs.Item.{behind, counted, past, piece-at}
 use Rattle.content.specs.Machine.{Mode, start, step}
 use Rattle.content.specs.Position.{Runs, Stretch, field-positions-from, is-field-position, is-position, item-mark, mark-of, marks}
 use Rattle.content.specs.declared.byte.Kind.the-variants as kind
 use Rattle.content.specs.declared.item.Item.{Item}
 use Rattle.content.specs.declared.item.Place.{Place}
 use Rattle.content.specs.declared.item.Place.the-variants.{Block, Content}
+use Rattle.content.specs.declared.item.Reader.{Reader}
 use Rattle.content.specs.declared.item.Seen.{Seen}
 use Rattle.content.specs.declared.item.Token.{Token}
 use Rattle.content.specs.declared.item.Token.the-variants as token
@@ -105,12 +106,24 @@ module _ {s : List ℕ} {at₀ : ℕ} {place₀ : Place} {seen₀ : Seen} {at : 
           ap (marks (here place seen)) (drop-next s at h)
           ∙ rw (g .block, g .kind, no-character (here Block seen) b (kind-no-character b kind.End (g .kind) (λ z. let y : _≡_ {A = ℕ} 0 1 = cc in omega arith)), l, done-marks (drop (at + 1) s))
 
--- What a run that is found tells.
-pub found : (s : List ℕ) (at : ℕ) (place : Place) (seen : Seen) {r : Run} {k : Mark} {from to : ℕ} {place′ : Place} {seen′ : Seen} → Runs s at place seen r → r ≡ Found k from to place′ seen′ → Stretch s at place seen k from to place′ seen′
-found s at place seen h e = subst (Runs s at place seen) e h
+-- The same from where the reader stood to where it stands.
+abbrev pub Walks : List ℕ → Reader → Reader → Type 0
+Walks s a b = Walked s (a .at) (a .place) (a .seen) (b .at) (b .place) (b .seen)
 
-pub found-none : (s : List ℕ) (at : ℕ) (place : Place) (seen : Seen) {r : Run} → Runs s at place seen r → r ≡ None → marks (here place seen) (drop at s) ≡ replicate (length s - at) Structure
-found-none s at place seen h e = subst (Runs s at place seen) e h
+module _ {s : List ℕ} {a b c : Reader} {t : Token} {i : Item} {next : ℕ} {k : Mark} {r : Bool} (w : Walks s a b) (e : t ≡ piece-at s (b .at) (b .place) (b .seen))
+    (f : t ≡ token.Read i next) (p : c ≡ past b i next) (m : k ≡ item-mark i) (d : r ≡ is-position k) where
+  pub walks-on : r ≡ false → (b .at < c .at) × Walks s a c
+  walks-on g = rw p (walked-on w e f refl refl m d g)
+
+  pub walks-to : r ≡ true → Runs s a (Found k (b .at) c)
+  walks-to g = rw p (walked-to w e f refl refl m d g)
+
+-- What a run that is found tells.
+pub found : (s : List ℕ) (at : Reader) {r : Run} {k : Mark} {from : ℕ} {next : Reader} → Runs s at r → r ≡ Found k from next → Runs s at (Found k from next)
+found s at h e = subst (Runs s at) e h
+
+pub found-none : (s : List ℕ) (at : Reader) {r : Run} → Runs s at r → r ≡ None → Runs s at None
+found-none s at h e = subst (Runs s at) e h
 
 -- ---- Field positions.
 abbrev fields-in : List Mark → ℕ

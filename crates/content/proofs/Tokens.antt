@@ -13,7 +13,7 @@ use lib.Seq.{drop-drop, getD-drop}
 use Rattle.frame.specs.Ground.{pick}
 use Rattle.frame.proofs.Ground.{never, drop-next, pick-case, stands}
 use Rattle.content.specs.Byte.{kind-of, code-of, is-character, is-code, is-count, is-expansion, in-front}
-use Rattle.content.specs.Item.{behind, counted, one-more, characters-end, codes-end, enclosed, open-line, open-block, open-field, content-token, line-token, block-token, field-token, code-token, date-token, opening, opened, piece-at, token-at}
+use Rattle.content.specs.Item.{behind, counted, one-more, characters-end, codes-end, enclosed, open-line, open-block, open-field, opens, content-token, line-token, block-token, field-token, code-token, date-token, opening, opened, piece-at, token-at}
 use Rattle.content.specs.Machine.{in-code as in-code-step, Spot, Inside, Font, TabulationCount, TabulationEnd, CounterNumber, CounterEnd, Mode, Reading, Bad, step, stepped, with-line, with-field}
 use Rattle.content.specs.Position.{item-mark, mark-of, marks}
 use Rattle.content.specs.Strip.{item-shows, shown-by, strip-from, where-good}
@@ -178,14 +178,14 @@ module _ (each : Bool) (End : Type 0) (s : List ℕ) (at : ℕ) (inside : at ≤
 
   line-opens : (place : Place) → stepped (Inside place) (getD s at 0) seen ≡ with-line seen → mark-of (here place seen) (getD s at 0) ≡ Structure
       → ((v : Values) → shown-by v (here place seen) (getD s at 0) ≡ getD s at 0 ∷ []) → Tells each End s at place seen (open-line at seen)
-  unfolding open-line with-line one-more
+  unfolding opens with-line one-more
   line-opens place e f g =
       pick-case (Tells each End s at place seen) (ltb (seen .lines) 4) _ _
       (λ t. one place item.LineOpens (e ∙ rw t) f (λ b v. rw (g v)))
       (λ t. none place (e ∙ rw t))
 
   field-opens : kind-of (getD s at 0) ≡ kind.Field → Tells each End s at Block seen (open-field at seen)
-  unfolding open-field with-field one-more
+  unfolding opens with-field one-more
   field-opens e =
       pick-case (Tells each End s at Block seen) (ltb (seen .fields) 10) _ _
       (λ t. one Block item.FieldOpens (rw (e, t)) (no-character _ _ (kind-no-character _ kind.Field e (λ z. let y : _≡_ {A = ℕ} 0 1 = cc in omega arith))) (λ b v. rw e))
@@ -389,14 +389,14 @@ closing-stands : (s : List ℕ) (at : ℕ) → Closing (kind-of (getD s at 0)) �
 closing-stands s at k = stands s at (λ z. zero-closes-none (subst (λ (b : ℕ). Closing (kind-of b)) z k))
 
 module _ (each : Bool) (s : List ℕ) (at : ℕ) (inside : at ≤ length s) (seen : Seen) where
-  opens : (k : Kind) → kind-of (getD s at 0) ≡ k → Closing k → Tells each (Last s at Block) s at Block seen (opening s at k seen)
-  opens k e (inl f) = rw f (line-opens each (Last s at Block) s at inside seen Block (rw (e, f)) (enclosing each (Last s at Block) s at inside seen kind.Line (e ∙ f) (λ z. let y : _≡_ {A = ℕ} 0 1 = cc in omega arith)) (λ v. rw (e, f)))
-  opens k e (inr (inl f)) = rw f (record { block = refl; inside = closing-stands s at (inr (inl (e ∙ f))); kind = e ∙ f })
-  opens k e (inr (inr f)) = rw f (block-opens each (Last s at Block) s at inside seen Block (rw (e, f)) (enclosing each (Last s at Block) s at inside seen kind.Expansion (e ∙ f) (λ z. let y : _≡_ {A = ℕ} 0 1 = cc in omega arith)) (λ v. rw (e, f)))
+  opens-next : (k : Kind) → kind-of (getD s at 0) ≡ k → Closing k → Tells each (Last s at Block) s at Block seen (opening s at k seen)
+  opens-next k e (inl f) = rw f (line-opens each (Last s at Block) s at inside seen Block (rw (e, f)) (enclosing each (Last s at Block) s at inside seen kind.Line (e ∙ f) (λ z. let y : _≡_ {A = ℕ} 0 1 = cc in omega arith)) (λ v. rw (e, f)))
+  opens-next k e (inr (inl f)) = rw f (record { block = refl; inside = closing-stands s at (inr (inl (e ∙ f))); kind = e ∙ f })
+  opens-next k e (inr (inr f)) = rw f (block-opens each (Last s at Block) s at inside seen Block (rw (e, f)) (enclosing each (Last s at Block) s at inside seen kind.Expansion (e ∙ f) (λ z. let y : _≡_ {A = ℕ} 0 1 = cc in omega arith)) (λ v. rw (e, f)))
 
   opens-found : (t : Token) → Tells each (Closing (kind-of (getD s at 0))) s at Block seen t → Tells each (Last s at Block) s at Block seen (opened s at t seen)
   opens-found (token.Read i next) g = g
-  opens-found token.Ends g = opens (kind-of (getD s at 0)) refl g
+  opens-found token.Ends g = opens-next (kind-of (getD s at 0)) refl g
   opens-found (token.Unfit p) g = g
 
 -- ---- The two readers.

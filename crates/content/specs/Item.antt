@@ -13,6 +13,7 @@ use Rattle.content.specs.declared.byte.Coded.{Coded}
 use Rattle.content.specs.declared.byte.Coded.the-variants as coded
 use Rattle.content.specs.declared.item.Place.{Place}
 use Rattle.content.specs.declared.item.Place.the-variants as place
+use Rattle.content.specs.declared.item.Reader.{Reader}
 use Rattle.content.specs.declared.item.Seen.{Seen}
 use Rattle.content.specs.declared.item.Item.{Item}
 use Rattle.content.specs.declared.item.Item.the-variants.{LineOpens, BlockOpens, Characters, FieldCharacters, Tabulation, Counter, FieldOpens, FieldCloses, DateOpens, Date, DateCloses}
@@ -51,6 +52,13 @@ counted DateOpens seen = seen
 counted (Date c) seen = seen
 counted DateCloses seen = seen
 
+-- Before the first byte, and behind an item.
+abbrev pub begin : Reader
+begin = record { at = 0; place = place.Content; seen = record { lines = 0; fields = 0 } }
+
+abbrev pub past : Reader → Item → ℕ → Reader
+past reader item next = record { at = next; place = behind item; seen = counted item (reader .seen) }
+
 -- The place behind the characters, and behind the codes, that stand in a row from a place on.
 unfoldable pub characters-end : List ℕ → ℕ → ℕ
 characters-end s at = at + in-front is-character (drop at s)
@@ -64,17 +72,24 @@ unfoldable pub enclosed : List ℕ → ℕ → Bool → ℕ → Item → Token
 enclosed s at fits mark item =
     pick fits (pick (eqb (getD s (at + 2) 0) mark) (Read item (at + 3)) (Unfit (at + 2))) (Unfit (at + 1))
 
+-- What is opened by one byte, where not as many have begun as there may be.
+abbrev pub one-byte : ℕ → Item → Token
+one-byte at item = Read item (at + 1)
+
+unfoldable pub opens : ℕ → ℕ → ℕ → Item → Token
+opens at begun most item = pick (ltb begun most) (one-byte at item) (Unfit at)
+
 -- 01, What a content is: "One to four lines"; "A line is 0Ah and one or more blocks."
-unfoldable pub open-line : ℕ → Seen → Token
-open-line at seen = pick (ltb (seen .lines) most-lines) (Read LineOpens (at + 1)) (Unfit at)
+abbrev pub open-line : ℕ → Seen → Token
+open-line at seen = opens at (seen .lines) most-lines LineOpens
 
 -- 01, What a content is: "A block is an expansion (01h to 09h), a font byte (01h to FFh)".
 unfoldable pub open-block : List ℕ → ℕ → Token
 open-block s at = pick (is-count (getD s (at + 1) 0)) (Read BlockOpens (at + 2)) (Unfit (at + 1))
 
 -- 01, What a content is: "an external field: [..] at most 10 in a content".
-unfoldable pub open-field : ℕ → Seen → Token
-open-field at seen = pick (ltb (seen .fields) most-fields) (Read FieldOpens (at + 1)) (Unfit at)
+abbrev pub open-field : ℕ → Seen → Token
+open-field at seen = opens at (seen .fields) most-fields FieldOpens
 
 unfoldable pub content-token : List ℕ → ℕ → Seen → Token
 content-token s at seen = pick (eqb (getD s at 0) 0x0A) (open-line at seen) (Unfit at)

@@ -9,6 +9,7 @@ use Rattle.content.specs.Byte.{is-character}
 use Rattle.content.specs.Machine.{Spot, Inside, Font, TabulationCount, TabulationEnd, CounterNumber, CounterEnd, Mode, Reading, Done, Bad, start, step}
 use Rattle.content.specs.declared.item.Place.{Place}
 use Rattle.content.specs.declared.item.Place.the-variants.{Content, Line, Block, Field, Date}
+use Rattle.content.specs.declared.item.Reader.{Reader}
 use Rattle.content.specs.declared.item.Seen.{Seen}
 use Rattle.content.specs.declared.item.Item.{Item}
 use Rattle.content.specs.declared.item.Item.the-variants as item
@@ -92,6 +93,6 @@ pub record Stretch (s : List ℕ) (at : ℕ) (p : Place) (seen : Seen) (k : Mark
   pub position : is-position k ≡ true
   pub same : marks (Reading (Inside p) seen) (drop at s) ≡ replicate (from - at) Structure ++ (replicate (to - from) k ++ marks (Reading (Inside p′) seen′) (drop to s))
 
-abbrev pub Runs : List ℕ → ℕ → Place → Seen → Run → Type 0
-Runs s at p seen (Found k from to p′ seen′) = Stretch s at p seen k from to p′ seen′
-Runs s at p seen None = marks (Reading (Inside p) seen) (drop at s) ≡ replicate (length s - at) Structure
+abbrev pub Runs : List ℕ → Reader → Run → Type 0
+Runs s r (Found k from n) = Stretch s (r .at) (r .place) (r .seen) k from (n .at) (n .place) (n .seen)
+Runs s r None = marks (Reading (Inside (r .place)) (r .seen)) (drop (r .at) s) ≡ replicate (length s - r .at) Structure

@@ -1,7 +1,6 @@
 // The edit of 42h: all addresses, then all symbols, and only then the writing.
 use crate::byte::all_characters;
-use crate::item::Place;
-use crate::item::Seen;
+use crate::item::begin;
 use crate::position::Run;
 use crate::position::run_at;
 use frame::build::lay;
@@ -34,34 +33,25 @@ fn addressed(s: &[u8], address: usize, symbols: &[u8]) -> bool
     // From here on the symbols have to land, and at the end all have.
     let mut from = address;
     let end = address + n;
-    let mut at = 0;
-    let mut place = Place::Content;
-    let mut seen = Seen {
-        lines: 0,
-        fields: 0,
-    };
+    let mut reader = begin();
     loop {
-        let run = run_at(s, at, place, seen);
+        let run = run_at(s, reader);
         match run {
             Run::Found {
                 mark: _,
                 from: first,
-                to,
-                place: inside,
-                seen: counts,
+                next,
             } => {
                 if from < first {
                     return false;
                 }
-                if end <= to {
+                if end <= next.at {
                     return true;
                 }
-                if from < to {
-                    from = to;
+                if from < next.at {
+                    from = next.at;
                 }
-                at = to;
-                place = inside;
-                seen = counts;
+                reader = next;
             }
             Run::None => {
                 return false;

@@ -13,7 +13,7 @@ ghost use Prim.Native.Nat.{_≤_, _<_, _^_};
 ghost use lib.ListN.{length, getD};
 ghost use mathlib.Core.Path.{_≡_};
 ghost use Rattle.content.specs.Byte.{kind-of};
-ghost use Rattle.content.specs.Item.{behind, block-token, characters-end, closing, codes-end, content-token, counted, date-token, enclosed, field-token, item-at, line-token, open-block, open-field, one-more, open-line, opened, opening, passed, piece-at, token-at, whole-field};
+ghost use Rattle.content.specs.Item.{begin, behind, block-token, characters-end, closing, codes-end, content-token, counted, date-token, enclosed, field-token, item-at, line-token, one-byte, one-more, open-block, opened, opens, opening, passed, past, piece-at, token-at, whole-field};
 
 // At most so many lines and external fields.
 pub const LINES: u8 = 4;
@@ -35,6 +35,13 @@ pub enum Place {
 pub struct Seen {
     pub lines: u8,
     pub fields: u8,
+}
+
+// Where the reader stands: at which place of the bytes, in what, and what has begun before it.
+pub struct Reader {
+    pub at: usize,
+    pub place: Place,
+    pub seen: Seen,
 }
 
 pub enum Item {
@@ -65,7 +72,7 @@ pub enum Token {
 }
 
 // In what we are behind an item.
-pub(crate) fn behind(item: Item) -> Place
+fn behind(item: Item) -> Place
     ensures { λ r. ⌜ r ≡ behind item ⌝ }
 {
     match item {
@@ -83,6 +90,31 @@ pub(crate) fn behind(item: Item) -> Place
     }
 }
 
+// Before the first byte.
+pub(crate) fn begin() -> Reader
+    ensures { λ r. ⌜ r ≡ begin ⌝ }
+{
+    Reader {
+        at: 0,
+        place: Place::Content,
+        seen: Seen {
+            lines: 0,
+            fields: 0,
+        },
+    }
+}
+
+// Behind an item.
+pub(crate) fn past(reader: Reader, item: Item, next: usize) -> Reader
+    ensures { λ r. ⌜ r ≡ past reader item next ⌝ }
+{
+    Reader {
+        at: next,
+        place: behind(item),
+        seen: counted(item, reader.seen),
+    }
+}
+
 // One more, but not more than the most.
 fn one_more(most: u8, n: u8) -> u8
     ensures { λ r. ⌜ r ≡ one-more most n ⌝ }
@@ -94,7 +126,7 @@ fn one_more(most: u8, n: u8) -> u8
 }
 
 // What has begun with an item.
-pub(crate) fn counted(item: Item, seen: Seen) -> Seen
+fn counted(item: Item, seen: Seen) -> Seen
     ensures { λ r. ⌜ r ≡ counted item seen ⌝ }
 {
     match item {
@@ -162,16 +194,21 @@ fn enclosed(s: &[u8], at: usize, fits: bool, mark: u8, item: Item) -> Token
     Token::Unfit(at + 1)
 }
 
-// A 0Ah opens a line, the fourth at the most.
-fn open_line(at: usize, seen: Seen) -> Token
+// An item of one byte.
+fn one_byte(at: usize, item: Item) -> Token
     requires { ⌜ at ≤ 2 ^ 63 ⌝ }
-    ensures { λ r. ⌜ r ≡ open-line at seen ⌝ }
+    ensures { λ r. ⌜ r ≡ one-byte at item ⌝ }
 {
-    if seen.lines < LINES {
-        return Token::Read {
-            item: Item::LineOpens,
-            next: at + 1,
-        };
+    Token::Read { item, next: at + 1 }
+}
+
+// A 0Ah opens a line, the fourth at the most; a 12h an external field, the tenth at the most.
+fn opens(at: usize, begun: u8, most: u8, item: Item) -> Token
+    requires { ⌜ at ≤ 2 ^ 63 ⌝ }
+    ensures { λ r. ⌜ r ≡ opens at begun most item ⌝ }
+{
+    if begun < most {
+        return one_byte(at, item);
     }
     Token::Unfit(at)
 }
@@ -190,26 +227,12 @@ fn open_block(s: &[u8], at: usize) -> Token
     Token::Unfit(at + 1)
 }
 
-// A 12h opens an external field, the tenth at the most.
-fn open_field(at: usize, seen: Seen) -> Token
-    requires { ⌜ at ≤ 2 ^ 63 ⌝ }
-    ensures { λ r. ⌜ r ≡ open-field at seen ⌝ }
-{
-    if seen.fields < FIELDS {
-        return Token::Read {
-            item: Item::FieldOpens,
-            next: at + 1,
-        };
-    }
-    Token::Unfit(at)
-}
-
 fn content_token(s: &[u8], at: usize, seen: Seen) -> Token
     requires { ⌜ at ≤ length (now s) ⌝ }
     ensures { λ r. ⌜ r ≡ content-token (now (s .entry)) at seen ⌝ }
 {
     if byte_at(s, at) == 0x0A {
-        return open_line(at, seen);
+        return opens(at, seen.lines, LINES, Item::LineOpens);
     }
     Token::Unfit(at)
 }
@@ -231,7 +254,7 @@ fn block_token(s: &[u8], at: usize, kind: Kind, seen: Seen) -> Token
     match kind {
         Kind::Line => Token::Ends,
         Kind::End => Token::Ends,
-        Kind::Field => open_field(at, seen),
+        Kind::Field => opens(at, seen.fields, FIELDS, Item::FieldOpens),
         Kind::Date => Token::Read {
             item: Item::DateOpens,
             next: at + 1,
@@ -259,10 +282,7 @@ fn field_token(s: &[u8], at: usize) -> Token
 {
     let b = byte_at(s, at);
     if b == 0x12 {
-        return Token::Read {
-            item: Item::FieldCloses,
-            next: at + 1,
-        };
+        return one_byte(at, Item::FieldCloses);
     }
     if is_character(b) {
         return Token::Read {
@@ -279,10 +299,7 @@ fn date_token(s: &[u8], at: usize) -> Token
 {
     let b = byte_at(s, at);
     if b == 0x1B {
-        return Token::Read {
-            item: Item::DateCloses,
-            next: at + 1,
-        };
+        return one_byte(at, Item::DateCloses);
     }
     let coded = code_of(b);
     match coded {
@@ -365,7 +382,7 @@ fn opening(s: &[u8], at: usize, kind: Kind, seen: Seen) -> Token
     ensures { λ r. ⌜ r ≡ opening (now (s .entry)) at kind seen ⌝ }
 {
     match kind {
-        Kind::Line => open_line(at, seen),
+        Kind::Line => opens(at, seen.lines, LINES, Item::LineOpens),
         Kind::End => Token::Ends,
         Kind::Field => Token::Ends,
         Kind::Date => Token::Ends,
@@ -390,10 +407,13 @@ fn opened(s: &[u8], at: usize, found: Token, seen: Seen) -> Token
 }
 
 // What stands at a place for the positions: a date item's codes are passed with the mark behind them.
-pub(crate) fn piece_at(s: &[u8], at: usize, place: Place, seen: Seen) -> Token
-    requires { ⌜ at ≤ length (now s) ⌝ }
-    ensures { λ r. ⌜ r ≡ piece-at (now (s .entry)) at place seen ⌝ }
+pub(crate) fn piece_at(s: &[u8], reader: Reader) -> Token
+    requires { ⌜ reader .at ≤ length (now s) ⌝ }
+    ensures { λ r. ⌜ r ≡ piece-at (now (s .entry)) (reader .at) (reader .place) (reader .seen) ⌝ }
 {
+    let at = reader.at;
+    let place = reader.place;
+    let seen = reader.seen;
     match place {
         Place::Content => content_token(s, at, seen),
         Place::Line => line_token(s, at),
@@ -409,10 +429,13 @@ pub(crate) fn piece_at(s: &[u8], at: usize, place: Place, seen: Seen) -> Token
 }
 
 // What stands at a place for the strip: each code by itself.
-pub(crate) fn token_at(s: &[u8], at: usize, place: Place, seen: Seen) -> Token
-    requires { ⌜ at ≤ length (now s) ⌝ }
-    ensures { λ r. ⌜ r ≡ token-at (now (s .entry)) at place seen ⌝ }
+pub(crate) fn token_at(s: &[u8], reader: Reader) -> Token
+    requires { ⌜ reader .at ≤ length (now s) ⌝ }
+    ensures { λ r. ⌜ r ≡ token-at (now (s .entry)) (reader .at) (reader .place) (reader .seen) ⌝ }
 {
+    let at = reader.at;
+    let place = reader.place;
+    let seen = reader.seen;
     match place {
         Place::Content => content_token(s, at, seen),
         Place::Line => line_token(s, at),

@@ -1,10 +1,9 @@
 // The character positions of a content: the runs of characters that the item reader finds, in blocks and in external fields.
 use crate::item::Item;
-use crate::item::Place;
-use crate::item::Seen;
+use crate::item::Reader;
 use crate::item::Token;
-use crate::item::behind;
-use crate::item::counted;
+use crate::item::begin;
+use crate::item::past;
 use crate::item::piece_at;
 ghost use Prim.Native.Nat.{_≤_};
 ghost use lib.ListN.{length};
@@ -20,13 +19,11 @@ pub enum Mark {
 
 // The next character positions in a row.
 pub enum Run {
-    // What they are, from which place to which they stand, and in what we are behind them.
+    // What they are, from which place on they stand, and where the reader stands behind them.
     Found {
         mark: Mark,
         from: usize,
-        to: usize,
-        place: Place,
-        seen: Seen,
+        next: Reader,
     },
     None,
 }
@@ -70,31 +67,26 @@ pub(crate) fn is_field_position(mark: Mark) -> bool
     }
 }
 
-// The first character positions from a place on.
-pub(crate) fn run_at(s: &[u8], start: usize, within: Place, begun: Seen) -> Run
-    requires { ⌜ start ≤ length (now s) ⌝ }
-    ensures { λ r. ⌜ Runs (now (s .entry)) start within begun r ⌝ }
+// The first character positions from where the reader stands.
+pub(crate) fn run_at(s: &[u8], start: Reader) -> Run
+    requires { ⌜ start .at ≤ length (now s) ⌝ }
+    ensures { λ r. ⌜ Runs (now (s .entry)) start r ⌝ }
 {
-    let mut at = start;
-    let mut place = within;
-    let mut seen = begun;
+    let mut reader = start;
     loop {
-        let found = piece_at(s, at, place, seen);
+        let found = piece_at(s, reader);
         match found {
             Token::Read { item, next } => {
-                place = behind(item);
-                seen = counted(item, seen);
+                let from = reader.at;
+                reader = past(reader, item, next);
                 let mark = item_mark(item);
                 if is_position(mark) {
                     return Run::Found {
                         mark,
-                        from: at,
-                        to: next,
-                        place,
-                        seen,
+                        from,
+                        next: reader,
                     };
                 }
-                at = next;
             }
             Token::Ends => {
                 return Run::None;
@@ -111,28 +103,15 @@ pub fn field_positions(s: &[u8]) -> usize
     ensures { λ r. ⌜ r ≡ field-positions (now (s .entry)) ⌝ }
 {
     let mut count = 0;
-    let mut at = 0;
-    let mut place = Place::Content;
-    let mut seen = Seen {
-        lines: 0,
-        fields: 0,
-    };
+    let mut reader = begin();
     loop {
-        let run = run_at(s, at, place, seen);
+        let run = run_at(s, reader);
         match run {
-            Run::Found {
-                mark,
-                from,
-                to,
-                place: inside,
-                seen: counts,
-            } => {
+            Run::Found { mark, from, next } => {
                 if is_field_position(mark) {
-                    count += to - from;
+                    count += next.at - from;
                 }
-                at = to;
-                place = inside;
-                seen = counts;
+                reader = next;
             }
             Run::None => {
                 return count;

@@ -2,11 +2,9 @@
 use crate::byte::Code;
 use crate::byte::byte_at;
 use crate::item::Item;
-use crate::item::Place;
-use crate::item::Seen;
 use crate::item::Token;
-use crate::item::behind;
-use crate::item::counted;
+use crate::item::begin;
+use crate::item::past;
 use crate::item::token_at;
 use crate::test::MESSAGE;
 use crate::test::is_content;
@@ -99,20 +97,14 @@ fn write(s: &[u8], values: Values, out: &mut [u8]) -> usize
     let digits = values.digits;
     let entries = values.entries;
     let mut to = 0;
-    let mut at = 0;
-    let mut place = Place::Content;
-    let mut seen = Seen {
-        lines: 0,
-        fields: 0,
-    };
+    let mut reader = begin();
     loop {
-        let found = token_at(s, at, place, seen);
+        let found = token_at(s, reader);
         match found {
             Token::Read { item, next } => {
+                let at = reader.at;
                 to = put_item(out, to, item, &s[at..next], &digits, &entries);
-                at = next;
-                place = behind(item);
-                seen = counted(item, seen);
+                reader = past(reader, item, next);
             }
             Token::Ends => {
                 out[to] = 0x0D;

@@ -1,7 +1,6 @@
 // The field update, as far as one content goes: every check stands before the first write.
 use crate::byte::all_characters;
-use crate::item::Place;
-use crate::item::Seen;
+use crate::item::begin;
 use crate::position::Run;
 use crate::position::is_field_position;
 use crate::position::run_at;
@@ -54,29 +53,21 @@ pub fn lay_text(s: &mut [u8], text: &[u8], from: usize) -> usize
 {
     let rest = behind(text, from);
     let mut count = 0;
-    let mut at = 0;
-    let mut place = Place::Content;
-    let mut seen = Seen {
-        lines: 0,
-        fields: 0,
-    };
+    let mut reader = begin();
     loop {
-        let run = run_at(s, at, place, seen);
+        let run = run_at(s, reader);
         match run {
             Run::Found {
                 mark,
                 from: first,
-                to,
-                place: inside,
-                seen: counts,
+                next,
             } => {
+                let to = next.at;
                 if is_field_position(mark) {
                     fill(&mut s[first..to], behind(rest, count));
                     count += to - first;
                 }
-                at = to;
-                place = inside;
-                seen = counts;
+                reader = next;
             }
             Run::None => {
                 return count;

@@ -10,10 +10,10 @@ use Rattle.content.proofs.edit.addressed.Statement.{statement}
 use Rattle.content.proofs.edit.addressed.Tie as tie
 
 abbrev Inv-loop : tie.InvT-loop
-Inv-loop s address symbols n from₀ end at₀ place₀ seen₀ from at place seen = Landing s address symbols n end from at place seen
+Inv-loop s address symbols n from₀ end reader₀ from reader = Landing s address symbols n end from (reader .at) (reader .place) (reader .seen)
 
 abbrev μ-loop : tie.MeasureT-loop
-μ-loop s address symbols n from₀ end at₀ place₀ seen₀ from at place seen = length s - at
+μ-loop s address symbols n from₀ end reader₀ from reader = length s - reader .at
 
 returns : tie.Need-returns Inv-loop μ-loop
 returns c = sym (nothing-lands (c .before .before .before .args .symbols .now) _ (c .if1 .taken))
@@ -31,37 +31,37 @@ add-end : tie.Need-add-end Inv-loop μ-loop
 add-end c = omega arith
 
 loop-holds : tie.Need-loop-holds Inv-loop μ-loop
-loop-holds c = not-landed (c .before .before .before .before .before .args .s .now) (c .before .before .before .before .before .args .address) (c .before .before .before .before .before .args .symbols .now) (omega arith) (omega arith)
+loop-holds c =
+    let a = c .before .before .before .before .before .before .args in
+    rw (c .begin .ensures) (not-landed (a .s .now) (a .address) (a .symbols .now) (omega arith) (omega arith))
 
 run-at-requires : tie.Need-run-at-requires Inv-loop μ-loop
 run-at-requires c κs = c .loop .inv .inside
 
-enum-known-run : tie.Need-enum-known-run Inv-loop μ-loop
-enum-known-run c = search needs
-
 returns-4 : tie.Need-returns-4 Inv-loop μ-loop
-returns-4 c = lands-not (c .before .before .before .before .before .loop .inv) (found (c .before .before .before .before .before .before .before .before .before .before .before .args .s .now) (c .before .before .before .before .before .loop .at) (c .before .before .before .before .before .loop .place) (c .before .before .before .before .before .loop .seen) (c .before .before .before .before .run-at .ensures) (c .before .before .run .given .1)) (c .if4 .taken)
+returns-4 c = lands-not (c .before .before .before .before .before .loop .inv) (found (c .before .before .before .before .before .before .before .before .before .before .before .before .args .s .now) (c .before .before .before .before .before .loop .reader) (c .before .before .before .before .run-at .ensures) (c .before .before .run .given .1)) (c .if4 .taken)
 
 returns-5 : tie.Need-returns-5 Inv-loop μ-loop
-returns-5 c = lands-whole (c .before .before .before .before .before .before .loop .inv) (found (c .before .before .before .before .before .before .before .before .before .before .before .before .args .s .now) (c .before .before .before .before .before .before .loop .at) (c .before .before .before .before .before .before .loop .place) (c .before .before .before .before .before .before .loop .seen) (c .before .before .before .before .before .run-at .ensures) (c .before .before .before .run .given .1)) (c .before .if4 .left) (c .if5 .taken)
+returns-5 c = lands-whole (c .before .before .before .before .before .before .before .loop .inv) (found (c .before .before .before .before .before .before .before .before .before .before .before .before .before .before .args .s .now) (c .before .before .before .before .before .before .before .loop .reader) (c .before .before .before .before .before .before .run-at .ensures) (c .before .before .before .before .run .given .1)) (c .before .before .if4 .left) (c .if5 .taken)
 
 loop-less : tie.Need-loop-less Inv-loop μ-loop
-loop-less c = let r = found (c .before .before .before .before .before .before .before .before .before .before .before .before .before .args .s .now) (c .before .before .before .before .before .before .before .loop .at) (c .before .before .before .before .before .before .before .loop .place) (c .before .before .before .before .before .before .before .loop .seen) (c .before .before .before .before .before .before .run-at .ensures) (c .before .before .before .before .run .given .1) in omega (arith, r .ahead, r .some, r .inside)
+loop-less c =
+    let r = found (c .before .before .before .before .before .before .before .before .before .before .before .before .before .before .before .before .args .s .now) (c .before .before .before .before .before .before .before .before .before .loop .reader) (c .before .before .before .before .before .before .before .before .run-at .ensures) (c .before .before .before .before .before .before .run .given .1) in
+    omega (arith, r .ahead, r .some, r .inside)
 
 loop-again : tie.Need-loop-again Inv-loop μ-loop
-loop-again c = lands-part (c .before .before .before .before .before .before .before .loop .inv) (found (c .before .before .before .before .before .before .before .before .before .before .before .before .before .args .s .now) (c .before .before .before .before .before .before .before .loop .at) (c .before .before .before .before .before .before .before .loop .place) (c .before .before .before .before .before .before .before .loop .seen) (c .before .before .before .before .before .before .run-at .ensures) (c .before .before .before .before .run .given .1)) (c .before .before .if4 .left) (c .if6 .taken) (c .before .if5 .left)
+loop-again c = lands-part (c .before .before .before .before .before .before .before .before .before .loop .inv) (found (c .before .before .before .before .before .before .before .before .before .before .before .before .before .before .before .before .args .s .now) (c .before .before .before .before .before .before .before .before .before .loop .reader) (c .before .before .before .before .before .before .before .before .run-at .ensures) (c .before .before .before .before .before .before .run .given .1)) (c .before .before .before .before .if4 .left) (c .if6 .taken) (c .before .before .if5 .left)
 
 loop-less-2 : tie.Need-loop-less-2 Inv-loop μ-loop
-loop-less-2 c = let r = found (c .before .before .before .before .before .before .before .before .before .before .before .before .before .args .s .now) (c .before .before .before .before .before .before .before .loop .at) (c .before .before .before .before .before .before .before .loop .place) (c .before .before .before .before .before .before .before .loop .seen) (c .before .before .before .before .before .before .run-at .ensures) (c .before .before .before .before .run .given .1) in omega (arith, r .ahead, r .some, r .inside)
+loop-less-2 c =
+    let r = found (c .before .before .before .before .before .before .before .before .before .before .before .before .before .before .before .before .args .s .now) (c .before .before .before .before .before .before .before .before .before .loop .reader) (c .before .before .before .before .before .before .before .before .run-at .ensures) (c .before .before .before .before .before .before .run .given .1) in
+    omega (arith, r .ahead, r .some, r .inside)
 
 loop-again-2 : tie.Need-loop-again-2 Inv-loop μ-loop
-loop-again-2 c = lands-later (c .before .before .before .before .before .before .before .loop .inv) (found (c .before .before .before .before .before .before .before .before .before .before .before .before .before .args .s .now) (c .before .before .before .before .before .before .before .loop .at) (c .before .before .before .before .before .before .before .loop .place) (c .before .before .before .before .before .before .before .loop .seen) (c .before .before .before .before .before .before .run-at .ensures) (c .before .before .before .before .run .given .1)) (c .if6 .left)
-
-enum-told : tie.Need-enum-told Inv-loop μ-loop
-enum-told c = search needs
+loop-again-2 c = lands-later (c .before .before .before .before .before .before .before .before .before .loop .inv) (found (c .before .before .before .before .before .before .before .before .before .before .before .before .before .before .before .before .args .s .now) (c .before .before .before .before .before .before .before .before .before .loop .reader) (c .before .before .before .before .before .before .before .before .run-at .ensures) (c .before .before .before .before .before .before .run .given .1)) (c .if6 .left)
 
 returns-6 : tie.Need-returns-6 Inv-loop μ-loop
-returns-6 c = lands-nowhere (c .before .before .before .loop .inv) (found-none (c .before .before .before .before .before .before .before .before .before .args .s .now) (c .before .before .before .loop .at) (c .before .before .before .loop .place) (c .before .before .before .loop .seen) (c .before .before .run-at .ensures) (c .enum-told .given .1))
+returns-6 c = lands-nowhere (c .before .before .before .loop .inv) (found-none (c .before .before .before .before .before .before .before .before .before .before .args .s .now) (c .before .before .before .loop .reader) (c .before .before .run-at .ensures) (c .enum-told .given .1))
 
 pub addressed-spec : {M : Type 1} → statement M
 addressed-spec =
@@ -74,14 +74,15 @@ addressed-spec =
     sub-if3
     returns-3
     add-end
+    (λ c κs. search needs)
     loop-holds
     run-at-requires
-    enum-known-run
+    (λ c. search needs)
     returns-4
     returns-5
     loop-less
     loop-again
     loop-less-2
     loop-again-2
-    enum-told
+    (λ c. search needs)
     returns-6)

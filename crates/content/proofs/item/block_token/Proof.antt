@@ -4,7 +4,7 @@ use Rattle.content.proofs.item.block_token.Statement.{statement}
 use Rattle.content.proofs.item.block_token.Tie as tie
 
 returns-3 : tie.Need-returns-3
-returns-3 c = rw (c .before .enum-told3 .given .1) (c .open-field .ensures)
+returns-3 c = rw (c .before .enum-told3 .given .1) (c .opens .ensures)
 
 returns-4 : tie.Need-returns-4
 returns-4 c = rw (c .enum-told4 .given .1)

@@ -7,7 +7,7 @@ use Rattle.content.proofs.item.content_token.Tie as tie
 
 returns : tie.Need-returns
 unfolding content-token
-returns c = rw (← c .before .before .byte-at .ensures, c .open-line .ensures) (search tests)
+returns c = rw (← c .before .before .byte-at .ensures, c .opens .ensures) (search tests)
 
 returns-2 : tie.Need-returns-2
 unfolding content-token

@@ -8,7 +8,7 @@ use Rattle.content.proofs.item.date_token.Tie as tie
 
 returns : tie.Need-returns
 unfolding date-token
-returns c = rw (← c .before .byte-at .ensures) (search tests)
+returns c = rw (← c .before .before .byte-at .ensures, c .one-byte .ensures) (search tests)
 
 enum-told : tie.Need-enum-told
 enum-told c = search needs
@@ -26,7 +26,7 @@ date-token-spec =
     tie.close
     (tie.spec
     (λ c κs. search needs)
-    (λ c. search needs)
+    (λ c κs. search needs)
     returns
     (λ c κs. search needs)
     (λ c. search needs)

@@ -8,7 +8,7 @@ use Rattle.content.proofs.item.field_token.Tie as tie
 
 returns : tie.Need-returns
 unfolding field-token
-returns c = rw (← c .before .byte-at .ensures) (search tests)
+returns c = rw (← c .before .before .byte-at .ensures, c .one-byte .ensures) (search tests)
 
 returns-2 : tie.Need-returns-2
 unfolding field-token
@@ -23,7 +23,7 @@ field-token-spec =
     tie.close
     (tie.spec
     (λ c κs. search needs)
-    (λ c. search needs)
+    (λ c κs. search needs)
     returns
     (λ c κs. search needs)
     (λ c κs. search needs)

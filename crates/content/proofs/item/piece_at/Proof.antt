@@ -8,7 +8,7 @@ enum-told : tie.Need-enum-told
 enum-told c = search needs
 
 date-token-requires : tie.Need-date-token-requires
-date-token-requires c κs = rw (c .codes-end .ensures) (codes-inside (c .before .before .before .before .args .s .now) (c .before .before .before .before .args .at) (c .before .before .before .before .pre))
+date-token-requires c κs = rw (c .codes-end .ensures) (codes-inside (c .before .before .before .before .before .args .s .now) (c .before .before .before .before .before .args .reader .at) (c .before .before .before .before .before .pre))
 
 returns : tie.Need-returns
 returns c = rw (c .before .enum-told .given .1) (c .content-token .ensures)

@@ -15,67 +15,71 @@ use Rattle.content.proofs.update.lay_text.Statement.{statement}
 use Rattle.content.proofs.update.lay_text.Tie as tie
 
 abbrev Inv-loop : tie.InvT-loop
-Inv-loop s₀ text from rest count₀ at₀ place₀ seen₀ s count at place seen = Laid-to s₀ rest s count at place seen × (rest ≡ drop from text)
+Inv-loop s₀ text from rest count₀ reader₀ s count reader =
+    Laid-to s₀ rest s count (reader .at) (reader .place) (reader .seen) × (rest ≡ drop from text)
 
 abbrev μ-loop : tie.MeasureT-loop
-μ-loop s₀ text from rest count₀ at₀ place₀ seen₀ s count at place seen = length s - at
-
-behind-requires : tie.Need-behind-requires Inv-loop μ-loop
-behind-requires c κs = search needs
+μ-loop s₀ text from rest count₀ reader₀ s count reader = length s - reader .at
 
 loop-holds : tie.Need-loop-holds Inv-loop μ-loop
-loop-holds c = (not-laid (c .before .before .before .args .s .now) _, c .behind .ensures)
+loop-holds c = rw (c .begin .ensures) (not-laid (c .before .before .before .before .args .s .now) _, c .before .behind .ensures)
 
 run-at-requires : tie.Need-run-at-requires Inv-loop μ-loop
 run-at-requires c κs = c .before .loop .inv .0 .inside
 
-enum-known-run : tie.Need-enum-known-run Inv-loop μ-loop
-enum-known-run c = search needs
-
-is-field-position-requires : tie.Need-is-field-position-requires Inv-loop μ-loop
-is-field-position-requires c κs = search needs
-
 sub-fill : tie.Need-sub-fill Inv-loop μ-loop
-sub-fill c = let r = found (c .before .before .before .before .before .before .before .loop .s) (c .before .before .before .before .before .before .before .loop .at) (c .before .before .before .before .before .before .before .loop .place) (c .before .before .before .before .before .before .before .loop .seen) (c .before .before .before .before .before .run-at .ensures) (c .before .before .before .run .given .1) in omega (arith, r .ahead, r .some, r .inside)
+sub-fill c =
+    let r = found (c .before .before .before .before .before .before .before .loop .s) (c .before .before .before .before .before .before .before .loop .reader) (c .before .before .before .before .before .run-at .ensures) (c .before .before .before .run .given .1) in
+    omega (arith, r .ahead, r .some, r .inside)
 
 part-fill-start : tie.Need-part-fill-start Inv-loop μ-loop
-part-fill-start c = let r = found (c .before .before .before .before .before .before .before .loop .s) (c .before .before .before .before .before .before .before .loop .at) (c .before .before .before .before .before .before .before .loop .place) (c .before .before .before .before .before .before .before .loop .seen) (c .before .before .before .before .before .run-at .ensures) (c .before .before .before .run .given .1) in omega (arith, r .ahead, r .some, r .inside)
+part-fill-start c =
+    let r = found (c .before .before .before .before .before .before .before .loop .s) (c .before .before .before .before .before .before .before .loop .reader) (c .before .before .before .before .before .run-at .ensures) (c .before .before .before .run .given .1) in
+    omega (arith, r .ahead, r .some, r .inside)
 
 part-fill-end : tie.Need-part-fill-end Inv-loop μ-loop
-part-fill-end c = let r = found (c .before .before .before .before .before .before .before .loop .s) (c .before .before .before .before .before .before .before .loop .at) (c .before .before .before .before .before .before .before .loop .place) (c .before .before .before .before .before .before .before .loop .seen) (c .before .before .before .before .before .run-at .ensures) (c .before .before .before .run .given .1) in omega (arith, r .ahead, r .some, r .inside)
-
-behind-requires-2 : tie.Need-behind-requires-2 Inv-loop μ-loop
-behind-requires-2 c κs = search needs
-
-fill-requires : tie.Need-fill-requires Inv-loop μ-loop
-fill-requires c κs = search needs
+part-fill-end c =
+    let r = found (c .before .before .before .before .before .before .before .loop .s) (c .before .before .before .before .before .before .before .loop .reader) (c .before .before .before .before .before .run-at .ensures) (c .before .before .before .run .given .1) in
+    omega (arith, r .ahead, r .some, r .inside)
 
 sub-count : tie.Need-sub-count Inv-loop μ-loop
-sub-count c = let r = found (c .before .before .before .before .before .before .before .before .before .before .before .before .loop .s) (c .before .before .before .before .before .before .before .before .before .before .before .before .loop .at) (c .before .before .before .before .before .before .before .before .before .before .before .before .loop .place) (c .before .before .before .before .before .before .before .before .before .before .before .before .loop .seen) (c .before .before .before .before .before .before .before .before .before .before .run-at .ensures) (c .before .before .before .before .before .before .before .before .run .given .1) in omega (arith, r .ahead, r .some, r .inside)
+sub-count c =
+    let r = found (c .before .before .before .before .before .before .before .before .before .before .before .before .loop .s) (c .before .before .before .before .before .before .before .before .before .before .before .before .loop .reader) (c .before .before .before .before .before .before .before .before .before .before .run-at .ensures) (c .before .before .before .before .before .before .before .before .run .given .1) in
+    omega (arith, r .ahead, r .some, r .inside)
 
 add-count : tie.Need-add-count Inv-loop μ-loop
-add-count c = let r = found (c .before .before .before .before .before .before .before .before .before .before .before .before .loop .s) (c .before .before .before .before .before .before .before .before .before .before .before .before .loop .at) (c .before .before .before .before .before .before .before .before .before .before .before .before .loop .place) (c .before .before .before .before .before .before .before .before .before .before .before .before .loop .seen) (c .before .before .before .before .before .before .before .before .before .before .run-at .ensures) (c .before .before .before .before .before .before .before .before .run .given .1) in omega (arith, r .ahead, r .some, r .inside, c .before .before .before .before .before .before .before .before .before .before .before .before .loop .inv .0 .few)
+add-count c =
+    let r = found (c .before .before .before .before .before .before .before .before .before .before .before .before .loop .s) (c .before .before .before .before .before .before .before .before .before .before .before .before .loop .reader) (c .before .before .before .before .before .before .before .before .before .before .run-at .ensures) (c .before .before .before .before .before .before .before .before .run .given .1) in
+    omega (arith, r .ahead, r .some, r .inside, c .before .before .before .before .before .before .before .before .before .before .before .before .loop .inv .0 .few)
 
 loop-less : tie.Need-loop-less Inv-loop μ-loop
-loop-less c = let r = found (c .before .before .before .before .before .before .before .before .before .before .before .before .loop .s) (c .before .before .before .before .before .before .before .before .before .before .before .before .loop .at) (c .before .before .before .before .before .before .before .before .before .before .before .before .loop .place) (c .before .before .before .before .before .before .before .before .before .before .before .before .loop .seen) (c .before .before .before .before .before .before .before .before .before .before .run-at .ensures) (c .before .before .before .before .before .before .before .before .run .given .1) in let g = laid-on (c .before .before .before .before .before .before .before .before .before .before .before .before .loop .inv .0) (found (c .before .before .before .before .before .before .before .before .before .before .before .before .loop .s) (c .before .before .before .before .before .before .before .before .before .before .before .before .loop .at) (c .before .before .before .before .before .before .before .before .before .before .before .before .loop .place) (c .before .before .before .before .before .before .before .before .before .before .before .before .loop .seen) (c .before .before .before .before .before .before .before .before .before .before .run-at .ensures) (c .before .before .before .before .before .before .before .before .run .given .1)) (c .before .before .before .before .before .before .is-field-position .ensures) (c .before .before .before .before .before .if1 .taken) (c .before .before .before .behind2 .ensures) (c .before .before .fill .ensures) refl in omega (arith, r .ahead, r .some, g .inside, g .long, c .before .before .before .before .before .before .before .before .before .before .before .before .loop .inv .0 .long)
+loop-less c =
+    let r = found (c .before .before .before .before .before .before .before .before .before .before .before .before .loop .s) (c .before .before .before .before .before .before .before .before .before .before .before .before .loop .reader) (c .before .before .before .before .before .before .before .before .before .before .run-at .ensures) (c .before .before .before .before .before .before .before .before .run .given .1) in
+    let g = laid-on (c .before .before .before .before .before .before .before .before .before .before .before .before .loop .inv .0) r (c .before .before .before .before .before .before .is-field-position .ensures) (c .before .before .before .before .before .if1 .taken) (c .before .before .before .behind2 .ensures) (c .before .before .fill .ensures) refl in
+    omega (arith, r .ahead, r .some, g .inside, g .long, c .before .before .before .before .before .before .before .before .before .before .before .before .loop .inv .0 .long)
 
 loop-again : tie.Need-loop-again Inv-loop μ-loop
-loop-again c = (laid-on (c .before .before .before .before .before .before .before .before .before .before .before .before .loop .inv .0) (found (c .before .before .before .before .before .before .before .before .before .before .before .before .loop .s) (c .before .before .before .before .before .before .before .before .before .before .before .before .loop .at) (c .before .before .before .before .before .before .before .before .before .before .before .before .loop .place) (c .before .before .before .before .before .before .before .before .before .before .before .before .loop .seen) (c .before .before .before .before .before .before .before .before .before .before .run-at .ensures) (c .before .before .before .before .before .before .before .before .run .given .1)) (c .before .before .before .before .before .before .is-field-position .ensures) (c .before .before .before .before .before .if1 .taken) (c .before .before .before .behind2 .ensures) (c .before .before .fill .ensures) refl, c .before .before .before .before .before .before .before .before .before .before .before .before .loop .inv .1)
+loop-again c =
+    let r = found (c .before .before .before .before .before .before .before .before .before .before .before .before .loop .s) (c .before .before .before .before .before .before .before .before .before .before .before .before .loop .reader) (c .before .before .before .before .before .before .before .before .before .before .run-at .ensures) (c .before .before .before .before .before .before .before .before .run .given .1) in
+    (laid-on (c .before .before .before .before .before .before .before .before .before .before .before .before .loop .inv .0) r (c .before .before .before .before .before .before .is-field-position .ensures) (c .before .before .before .before .before .if1 .taken) (c .before .before .before .behind2 .ensures) (c .before .before .fill .ensures) refl, c .before .before .before .before .before .before .before .before .before .before .before .before .loop .inv .1)
 
 loop-less-2 : tie.Need-loop-less-2 Inv-loop μ-loop
-loop-less-2 c = let r = found (c .before .before .before .before .before .before .before .loop .s) (c .before .before .before .before .before .before .before .loop .at) (c .before .before .before .before .before .before .before .loop .place) (c .before .before .before .before .before .before .before .loop .seen) (c .before .before .before .before .before .run-at .ensures) (c .before .before .before .run .given .1) in omega (arith, r .ahead, r .some, r .inside)
+loop-less-2 c =
+    let r = found (c .before .before .before .before .before .before .before .loop .s) (c .before .before .before .before .before .before .before .loop .reader) (c .before .before .before .before .before .run-at .ensures) (c .before .before .before .run .given .1) in
+    omega (arith, r .ahead, r .some, r .inside)
 
 loop-again-2 : tie.Need-loop-again-2 Inv-loop μ-loop
-loop-again-2 c = (laid-past (c .before .before .before .before .before .before .before .loop .inv .0) (found (c .before .before .before .before .before .before .before .loop .s) (c .before .before .before .before .before .before .before .loop .at) (c .before .before .before .before .before .before .before .loop .place) (c .before .before .before .before .before .before .before .loop .seen) (c .before .before .before .before .before .run-at .ensures) (c .before .before .before .run .given .1)) (c .before .is-field-position .ensures) (c .if1 .left), c .before .before .before .before .before .before .before .loop .inv .1)
-
-enum-told : tie.Need-enum-told Inv-loop μ-loop
-enum-told c = search needs
+loop-again-2 c =
+    let r = found (c .before .before .before .before .before .before .before .loop .s) (c .before .before .before .before .before .before .before .loop .reader) (c .before .before .before .before .before .run-at .ensures) (c .before .before .before .run .given .1) in
+    (laid-past (c .before .before .before .before .before .before .before .loop .inv .0) r (c .before .is-field-position .ensures) (c .if1 .left), c .before .before .before .before .before .before .before .loop .inv .1)
 
 same-length : tie.Need-same-length Inv-loop μ-loop
 same-length c = c .before .before .before .before .loop .inv .0 .long
 
 returns : tie.Need-returns Inv-loop μ-loop
-returns c = let g = laid-all (c .before .before .before .before .loop .inv .0) (found-none (c .before .before .before .before .loop .s) (c .before .before .before .before .loop .at) (c .before .before .before .before .loop .place) (c .before .before .before .before .loop .seen) (c .before .before .run-at .ensures) (c .enum-told .given .1)) in record { answer = g .0; bytes = g .1 ∙ ap (λ (l : List ℕ). laid l start (c .before .before .before .before .before .before .before .before .args .s .now)) (c .before .before .before .before .loop .inv .1) }
+returns c =
+    let g = laid-all (c .before .before .before .before .loop .inv .0) (found-none (c .before .before .before .before .loop .s) (c .before .before .before .before .loop .reader) (c .before .before .run-at .ensures) (c .enum-told .given .1)) in
+    record { answer = g .0; bytes = g .1 ∙ ap (λ (l : List ℕ). laid l start (c .before .before .before .before .before .before .before .before .before .args .s .now)) (c .before .before .before .before .loop .inv .1) }
 
 pub lay-text-spec : {M : Type 1} → statement M
 lay-text-spec =
@@ -83,22 +87,23 @@ lay-text-spec =
     (tie.spec
     Inv-loop
     μ-loop
-    behind-requires
+    (λ c κs. search needs)
+    (λ c κs. search needs)
     loop-holds
     run-at-requires
-    enum-known-run
-    is-field-position-requires
+    (λ c. search needs)
+    (λ c κs. search needs)
     sub-fill
     part-fill-start
     part-fill-end
-    behind-requires-2
-    fill-requires
+    (λ c κs. search needs)
+    (λ c κs. search needs)
     sub-count
     add-count
     loop-less
     loop-again
     loop-less-2
     loop-again-2
-    enum-told
+    (λ c. search needs)
     same-length
     returns)
