@@ -1,8 +1,8 @@
 -- `Ground` has what the proofs of all three crates share, `Heard` what the receiver's rule tells of what it gives, `Told` what
--- the builder's does, `Lent` a buffer that is
--- lent part by part; `Samples` computes the rules on samples. `Laws` has the proofs of what specs/Laws.antt states, made in `Whole`,
--- `Exclusion` and `Once`.
+-- the builder's does, `Lent` a buffer that is lent part by part; `Samples` computes the rules on samples. `Numbers` and `Laws` have the
+-- proofs of what the files of that name in specs/ state; those of `Laws` are made in `Whole`, `Exclusion` and `Once`.
 pub mod Ground
+pub mod Numbers
 pub mod Heard
 pub mod Lent
 pub mod Told

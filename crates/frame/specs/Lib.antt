@@ -1,5 +1,7 @@
--- The rules of `frame`: `Ground` has the words that all three crates share, each room of src/ has its page of rules, and `Laws` says what holds of them together.
+-- The rules of `frame`: `Ground` has the words that all three crates share, `Numbers` the order of the numbers, each room of src/ has
+-- its page of rules, and `Laws` says what holds of them together.
 pub mod Ground
+pub mod Numbers
 pub mod Wire
 pub mod Receive
 pub mod Build
