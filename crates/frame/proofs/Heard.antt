@@ -13,7 +13,7 @@ use Rattle.frame.specs.Receive.{received, updated, framed, judged, run, 
 use Rattle.frame.specs.declared.receive.Received.{Received}
 use Rattle.frame.specs.declared.receive.Received.the-variants.{Partial, Refused, Misfit, Enquiry, Update, Frame}
 use Rattle.frame.proofs.Ground.{pick-case, unless-case, text-length}
-use Rattle.frame.proofs.Whole.{frame-whole}
+use Rattle.frame.proofs.Laws.{frame-whole}
 
 -- What each case tells; a refusal's number is never one of the silent 1 to 3, nor 0.
 abbrev pub Sound : List ℕ → Received → Type 0

@@ -1,13 +1,12 @@
 -- `Ground` has what the proofs of all three crates share, `Heard` what the receiver's rule tells of what it gives, `Told` what
--- the builder's does, `Lent` a buffer that is lent part by part; `Samples` computes the rules on samples. `Numbers` and `Laws` have the
--- proofs of what the files of that name in specs/ state; those of `Laws` are made in `Whole`, `Exclusion` and `Once`.
+-- the builder's does, `Lent` a buffer that is lent part by part; `Samples` computes the rules on samples. `Numbers`, `Laws` and
+-- `NumberLaws` have the proofs of what the files of that name in specs/ state, `Once` those of one outcome.
 pub mod Ground
 pub mod Numbers
 pub mod Heard
 pub mod Lent
 pub mod Told
 pub mod Samples
-pub mod Whole
-pub mod Exclusion
-pub mod Once
 pub mod Laws
+pub mod NumberLaws
+pub mod Once

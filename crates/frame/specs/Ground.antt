@@ -1,8 +1,8 @@
 -- Words that the rules of all three crates share.
 use Prim.Native.Nat.{ℕ, _+_}
-use mathlib.Core.Bool.{Bool, true, false}
+use mathlib.Core.Bool.{Bool, true, false, _||_}
 use mathlib.Core.List.{List, [], _∷_, _++_}
-use lib.Dec.{leb}
+use lib.Dec.{eqb, leb}
 use lib.ListN.{length, drop}
 
 -- The first where the test holds, else the second.
@@ -63,6 +63,11 @@ joined (x ∷ xs) = x ++ joined xs
 -- A number from the first to the second.
 abbrev pub within : ℕ → ℕ → ℕ → Bool
 within least most n = both (leb least n) (leb n most)
+
+-- Whether n is among them.
+abbrev pub has : ℕ → List ℕ → Bool
+has n [] = false
+has n (x ∷ xs) = eqb x n || has n xs
 
 -- A list laid over the front of a buffer; every byte behind it stays as it was.
 abbrev pub over : List ℕ → List ℕ → List ℕ

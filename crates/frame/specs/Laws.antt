@@ -1,14 +1,12 @@
--- What document 01 promises of frames as a whole, as statements over the rules: what is built is read back, what is consumed is whole, 3 and 4 exclude each other, no contract allows a second outcome.
+-- What document 01 promises of frames as a whole, as statements over the rules: what is built is read back, what is consumed is whole.
 use Prim.Native.Nat.{ℕ, _+_, _≤_}
-use mathlib.Core.Bool.{Bool, true, false, not, _&&_, _||_}
-use mathlib.Core.List.{List, [], _∷_, _++_}
-use mathlib.Core.Logic.{_↔_}
+use mathlib.Core.Bool.{Bool, true}
+use mathlib.Core.List.{List, _++_}
 use mathlib.Core.Path.{_≡_}
-use lib.Dec.{eqb, leb, ltb}
-use lib.ListN.{length, getD, take, drop}
+use lib.ListN.{length, take, drop}
 use Rattle.frame.specs.Ground.{pick}
-use Rattle.frame.specs.Wire.{enquiry, update-opens, update-closes, longest-update, update-marks, head-size, around, longest-data, size-of, listed, fits}
-use Rattle.frame.specs.Receive.{received, data-length, number, consumed, Receives}
+use Rattle.frame.specs.Wire.{enquiry, update-opens, head-size, around, longest-data, size-of, listed, fits}
+use Rattle.frame.specs.Receive.{received, number, consumed, Receives}
 use Rattle.frame.specs.Build.{frame, Lays, Wraps, Answers, Builds}
 use Rattle.frame.specs.declared.receive.Received.{Received}
 use Rattle.frame.specs.declared.receive.Received.the-variants.{Partial, Refused, Misfit, Enquiry, Update, Frame}
@@ -76,41 +74,6 @@ FrameWhole = (s : List ℕ) (i n c : ℕ) → received s ≡ Frame i n c → (c 
 
 abbrev pub ConsumedInside : Type 0
 ConsumedInside = (s : List ℕ) → consumed (received s) ≤ length s
-
--- Whether b is among the bytes.
-abbrev pub has : ℕ → List ℕ → Bool
-has b [] = false
-has b (x ∷ s) = eqb x b || has b s
-
--- 01, Numbers: "a frame is not whole with fewer than three bytes, or with a length up to 550 and fewer than length + 4;
--- an update is not whole with fewer than 1,024 bytes and no 03h." No bytes are not whole, a 05h always is.
-unfoldable pub not-whole : List ℕ → Bool
-not-whole s =
-    pick (eqb (length s) 0) true
-    (pick (eqb (getD s 0 0) enquiry) false
-    (pick (eqb (getD s 0 0) update-opens) (ltb (length s) (longest-update + update-marks) && not (has update-closes s))
-    (ltb (length s) head-size || (leb (data-length s) longest-data && ltb (length s) (data-length s + around)))))
-
--- 01, Numbers: 4 "length over 550; or 1,024 bytes from 02h on without 03h". "A 03h counts only within those 1,024 bytes."
-unfoldable pub too-long : List ℕ → Bool
-too-long s =
-    pick (eqb (length s) 0) false
-    (pick (eqb (getD s 0 0) enquiry) false
-    (pick (eqb (getD s 0 0) update-opens) (leb (longest-update + update-marks) (length s) && not (has update-closes (take (longest-update + update-marks) s)))
-    (leb head-size (length s) && ltb longest-data (data-length s))))
-
--- 01, Numbers: "3 and 4 exclude each other".
-pub record Apart (s : List ℕ) : Type 0 where
-  pub three : (number (received s) ≡ 3) ↔ (not-whole s ≡ true)
-  pub four : (number (received s) ≡ 4) ↔ (too-long s ≡ true)
-  pub never-both : (not-whole s && too-long s) ≡ false
-
-abbrev pub ThreeFourApart : Type 0
-ThreeFourApart = (s : List ℕ) → Apart s
-
--- 01, Numbers: the receiver gives no other number than these.
-abbrev pub NumbersGiven : Type 0
-NumbersGiven = (s : List ℕ) → has (number (received s)) (0 ∷ 3 ∷ 4 ∷ 5 ∷ 6 ∷ 7 ∷ []) ≡ true
 
 -- 01, What the proofs owe us: "that no second outcome satisfies it is proved". First for every call whose contract says no more
 -- than that its result is a rule's value: `word`, `check`, `size_of`, `listed`, `fits`; then for each of the others.

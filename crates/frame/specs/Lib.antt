@@ -1,8 +1,9 @@
 -- The rules of `frame`: `Ground` has the words that all three crates share, `Numbers` the order of the numbers, each room of src/ has
--- its page of rules, and `Laws` says what holds of them together.
+-- its page of rules; `NumberLaws` says which number is given, `Laws` what else holds of them together.
 pub mod Ground
 pub mod Numbers
 pub mod Wire
 pub mod Receive
 pub mod Build
+pub mod NumberLaws
 pub mod Laws

@@ -13,7 +13,7 @@ use Rattle.frame.specs.Laws.{ReadsBack, Heard, heard, heard-in}
 use Rattle.frame.specs.declared.receive.Received.{Received}
 use Rattle.frame.specs.declared.receive.Received.the-variants.{Misfit, Frame}
 use Rattle.frame.proofs.Ground.{both-true, unless-case, within-true, pick-case}
-use Rattle.frame.proofs.Whole.{built-read-back}
+use Rattle.frame.proofs.Laws.{built-read-back}
 use Rattle.printer.specs.State.{Printer, valid-state, printer-of}
 use Rattle.printer.specs.Order.{Order}
 use Rattle.printer.specs.Change.{set-message, set-parameters, set-both, edit-message}

@@ -14,7 +14,7 @@ use Rattle.frame.specs.declared.receive.Received.{Received}
 use Rattle.frame.specs.declared.receive.Received.the-variants.{Partial, Refused, Misfit, Enquiry, Update, Frame}
 use Rattle.frame.proofs.Ground.{unless-case, unless-tells}
 use Rattle.frame.proofs.Told.{frame-length}
-use Rattle.frame.proofs.Whole.{consumed-inside}
+use Rattle.frame.proofs.Laws.{consumed-inside}
 use Rattle.printer.specs.Clock.{clock-text, table-text, month-entry, months, two}
 use Rattle.printer.specs.Number.{digits, in-bytes}
 use Rattle.printer.specs.Counter.{counter-of}

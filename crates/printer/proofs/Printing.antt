@@ -12,7 +12,7 @@ use Rattle.frame.specs.Build.{frame}
 use Rattle.frame.specs.Receive.{received}
 use Rattle.frame.specs.declared.receive.Received.the-variants.{Frame}
 use Rattle.frame.proofs.Ground.{unless-tells}
-use Rattle.frame.proofs.Whole.{read-back}
+use Rattle.frame.proofs.Laws.{read-back}
 use Rattle.printer.specs.State.{valid-state, printer-of}
 use Rattle.printer.specs.Print.{print, ready, strips}
 use Rattle.printer.specs.Receive.{Outcome, outcome, handled, obeyed, order}

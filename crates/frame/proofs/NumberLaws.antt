@@ -1,23 +1,29 @@
--- 3 is given exactly for what is not whole and 4 exactly for what is too long, so no bytes are both; and no other number than document 01's is given.
+-- 3 is given exactly for what is not whole and 4 exactly for what is too long, so no bytes are both; no other number than document 01's
+-- is given. What is neither is whole, so that a frame's number comes of its check byte and the table: the first of the tests that fails.
 use Prim.Native.Nat.{ℕ, _+_}
 use mathlib.Core.Bool.{Bool, true, false, not, _&&_, _||_}
 use mathlib.Core.List.{List, [], _∷_}
 use mathlib.Core.Logic.{_↔_}
-use mathlib.Core.Path.{_≡_, refl, sym, _∙_, ap, ap₂}
+use mathlib.Core.Path.{_≡_, refl, sym, _∙_, ap, ap₂, subst}
 use native.Mathlib.Numerals.{add-one}
 use native.Mathlib.Omega.{arith}
 use borrow.Author.Tests.{eq-eqb, ne-eqb, lt-ltb, le-leb, lt-leb, eqb-true, ltb-true, ltb-false}
 use lib.Dec.{eqb, leb, ltb, leb·suc-suc}
 use lib.ListN.{length, getD, take}
 use lib.Seq.{take-all}
-use Rattle.frame.specs.Ground.{pick}
-use Rattle.frame.specs.Wire.{enquiry, update-opens, update-closes, longest-update, update-marks, around, longest-data}
-use Rattle.frame.specs.Receive.{received, updated, framed, run, text-space, data-length, number}
-use Rattle.frame.specs.Laws.{has, not-whole, too-long, ThreeFourApart, NumbersGiven}
+use Rattle.frame.specs.Ground.{pick, unless, has, Test, test, first-failing}
+use Rattle.frame.specs.Wire.{enquiry, update-opens, update-closes, longest-update, update-marks, check, head-size, around, longest-data, size-of, listed, fits}
+use Rattle.frame.specs.Receive.{received, updated, judged, framed, run, text-space, data-length, number}
+use Rattle.frame.specs.Numbers as numbers
+use Rattle.frame.specs.Numbers.{FirstGiven}
+use Rattle.frame.specs.Build as build
+use Rattle.frame.specs.Build.{answer-tests, build-tests}
+use Rattle.frame.specs.NumberLaws.{not-whole, too-long, ThreeFourApart, NumbersGiven, frame-tests, is-frame, receive-tests, InOrder, CallsGiveFirst}
 use Rattle.frame.specs.declared.receive.Received.{Received}
-use Rattle.frame.specs.declared.receive.Received.the-variants.{Partial, Refused, Enquiry, Update}
-use Rattle.frame.proofs.Ground.{pick-case}
-use Rattle.frame.proofs.Whole.{verified, verified-case}
+use Rattle.frame.specs.declared.receive.Received.the-variants.{Partial, Refused, Misfit, Enquiry, Update, Frame}
+use Rattle.frame.proofs.Ground.{pick-case, never}
+use Rattle.frame.proofs.Numbers.{gives-first}
+use Rattle.frame.proofs.Laws.{verified, verified-case}
 
 -- ---- Numbers as tests.
 exactly : (k m : ℕ) (b : Bool) → eqb k m ≡ b → (k ≡ m) ↔ (b ≡ true)
@@ -154,3 +160,75 @@ numbers-given s =
     pick-case Given (eqb (length s) 0) _ _ (λ e. refl) (λ e.
     pick-case Given (eqb (getD s 0 0) enquiry) _ _ (λ h. refl) (λ h.
     pick-case Given (eqb (getD s 0 0) update-opens) _ _ (λ g. given-updated s (run update-closes (text-space s))) (λ g. given-framed s (data-length s))))
+
+-- ---- The first that applies.
+-- 3 and 4 come first, and where neither applies the tests behind them decide.
+behind-four : (k : ℕ) (w l : Bool) (ts : List Test) → eqb k 3 ≡ w → eqb k 4 ≡ l → (eqb k 3 ≡ false → eqb k 4 ≡ false → k ≡ first-failing ts)
+    → k ≡ first-failing (test (not w) 3 ∷ test (not l) 4 ∷ ts)
+behind-four k true l ts e f g = eqb-true k 3 e
+behind-four k false true ts e f g = eqb-true k 4 f
+behind-four k false false ts e f g = g e f
+
+-- What is given where neither 3 nor 4 is.
+abbrev Else : ℕ → Received → Type 0
+Else k r = eqb (number r) 3 ≡ false → eqb (number r) 4 ≡ false → number r ≡ k
+
+else-updated : (s : List ℕ) (n : ℕ) → Else 0 (updated s n)
+unfolding updated
+else-updated s n =
+    pick-case (Else 0) (ltb n (length (text-space s))) _ _ (λ e p q. refl) (λ e.
+    pick-case (Else 0) (ltb (length s) (longest-update + update-marks)) _ _ (λ h p q. never (sym p)) (λ h p q. never (sym q)))
+
+verified-number : (s : List ℕ) → number (verified s (data-length s)) ≡ first-failing (frame-tests s)
+unfolding verified judged
+verified-number s =
+    let i : ℕ = getD s 0 0 in
+    let n : ℕ = data-length s in
+    go (eqb (check (take (n + head-size) s)) (getD s (n + head-size) 0)) (listed (size-of i)) (fits (size-of i) n) i n (n + around)
+  where
+    go : (a b c : Bool) (i n k : ℕ) → number (unless a (Refused 5 k) (unless b (Misfit 6 i n k) (unless c (Misfit 7 i n k) (Frame i n k)))) ≡ unless a 5 (unless b 6 (unless c 7 0))
+    go true true true i n k = refl
+    go true true false i n k = refl
+    go true false c i n k = refl
+    go false b c i n k = refl
+
+else-framed : (s : List ℕ) → Else (first-failing (frame-tests s)) (framed s (data-length s))
+unfolding framed verified
+else-framed s =
+    let P : Received → Type 0 = Else (first-failing (frame-tests s)) in
+    pick-case P (ltb (length s) head-size) _ _ (λ e p q. never (sym p)) (λ e.
+    pick-case P (ltb longest-data (data-length s)) _ _ (λ h p q. never (sym q)) (λ h.
+    pick-case P (ltb (length s) (data-length s + around)) _ _ (λ g p q. never (sym p)) (λ g p q. verified-number s)))
+
+else-received : (s : List ℕ) → Else (first-failing (pick (is-frame s) (frame-tests s) [])) (received s)
+unfolding received
+else-received s =
+    let P : Received → Type 0 = Else (first-failing (pick (is-frame s) (frame-tests s) [])) in
+    pick-case P (eqb (length s) 0) _ _ (λ e p q. never (sym p)) (λ e.
+    pick-case P (eqb (getD s 0 0) enquiry) _ _ (λ h p q. rw h) (λ h.
+    pick-case P (eqb (getD s 0 0) update-opens) _ _
+    (λ g. rw (h, g) (else-updated s (run update-closes (text-space s))))
+    (λ g. rw (h, g) (else-framed s))))
+
+received-first : (s : List ℕ) → number (received s) ≡ first-failing (receive-tests s)
+received-first s = behind-four (number (received s)) (not-whole s) (too-long s) (pick (is-frame s) (frame-tests s) []) (number-three s) (number-four s) (else-received s)
+
+pub in-order : InOrder
+in-order = record { receives = λ s. go (is-frame s) s; answers = λ room n. refl; builds = λ room identifier n. refl }
+  where
+    go : (b : Bool) (s : List ℕ) → numbers.in-order (test (not (not-whole s)) 3 ∷ test (not (too-long s)) 4 ∷ pick b (frame-tests s) []) ≡ true
+    go true s = refl
+    go false s = refl
+
+-- A number that is the first failing test's is the first that applies.
+first-given : (ts : List Test) (k : ℕ) → numbers.in-order ts ≡ true → k ≡ first-failing ts → FirstGiven ts k
+first-given ts k o e = subst (FirstGiven ts) (sym e) (gives-first ts o)
+
+pub calls-give-first : CallsGiveFirst
+calls-give-first =
+    record {
+      receive = λ s r p. first-given (receive-tests s) (number r) (in-order .receives s) (ap number (p .answer) ∙ received-first s);
+      wrap = λ before identifier n r after p. first-given (answer-tests (length before) n) (build.number r) (in-order .answers (length before) n) (p .told .first);
+      answer = λ before identifier d r after p. first-given (answer-tests (length before) (length d)) (build.number r) (in-order .answers (length before) (length d)) (p .told .first);
+      build = λ before identifier d r after p. first-given (build-tests (length before) identifier (length d)) (build.number r) (in-order .builds (length before) identifier (length d)) (p .told .first);
+    }
