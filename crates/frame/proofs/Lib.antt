@@ -1,12 +1,12 @@
 -- `Ground` has what the proofs of all three crates share, `Heard` what the receiver's rule tells of what it gives, `Told` what
--- the builder's does, `Lent` a buffer that is lent part by part; `Samples` computes the rules on samples. `Numbers`, `Laws` and
--- `NumberLaws` have the proofs of what the files of that name in specs/ state, `Once` those of one outcome.
+-- the builder's does, `Lent` a buffer that is lent part by part; `Samples` computes the rules on samples. `Numbers`,
+-- `NumberLaws`, `Laws` and `Unique` have the proofs of what the files of that name in specs/ state.
 pub mod Ground
 pub mod Numbers
 pub mod Heard
 pub mod Lent
 pub mod Told
 pub mod Samples
-pub mod Laws
 pub mod NumberLaws
-pub mod Once
+pub mod Laws
+pub mod Unique

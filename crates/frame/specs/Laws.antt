@@ -1,16 +1,15 @@
 -- What document 01 promises of frames as a whole, as statements over the rules: what is built is read back, what is consumed is whole.
 use Prim.Native.Nat.{ℕ, _+_, _≤_}
-use mathlib.Core.Bool.{Bool, true}
+use mathlib.Core.Bool.{true}
 use mathlib.Core.List.{List, _++_}
 use mathlib.Core.Path.{_≡_}
 use lib.ListN.{length, take, drop}
 use Rattle.frame.specs.Ground.{pick}
 use Rattle.frame.specs.Wire.{enquiry, update-opens, head-size, around, longest-data, size-of, listed, fits}
-use Rattle.frame.specs.Receive.{received, number, consumed, Receives}
-use Rattle.frame.specs.Build.{frame, Lays, Wraps, Answers, Builds}
+use Rattle.frame.specs.Receive.{received, number, consumed}
+use Rattle.frame.specs.Build.{frame, Wraps, Answers, Builds}
 use Rattle.frame.specs.declared.receive.Received.{Received}
 use Rattle.frame.specs.declared.receive.Received.the-variants.{Partial, Refused, Misfit, Enquiry, Update, Frame}
-use Rattle.frame.specs.declared.build.Built.{Built}
 use Rattle.frame.specs.declared.build.Built.the-variants.{Written}
 
 -- What the box hears of a frame: its identifier and its data.
@@ -74,31 +73,3 @@ FrameWhole = (s : List ℕ) (i n c : ℕ) → received s ≡ Frame i n c → (c 
 
 abbrev pub ConsumedInside : Type 0
 ConsumedInside = (s : List ℕ) → consumed (received s) ≤ length s
-
--- 01, What the proofs owe us: "that no second outcome satisfies it is proved". First for every call whose contract says no more
--- than that its result is a rule's value: `word`, `check`, `size_of`, `listed`, `fits`; then for each of the others.
-abbrev pub ResultOnce : Type 1
-ResultOnce = (A : Type 0) (rule r r′ : A) → r ≡ rule → r′ ≡ rule → r ≡ r′
-
-abbrev pub ReceiveOnce : Type 0
-ReceiveOnce = (s : List ℕ) (r r′ : Received) → Receives s r → Receives s r′ → r ≡ r′
-
-abbrev pub LayOnce : Type 0
-LayOnce =
-    (before bytes : List ℕ) (r r′ : Bool) (after after′ : List ℕ)
-    → Lays before bytes r after → Lays before bytes r′ after′ → (r ≡ r′) × (after ≡ after′)
-
-abbrev pub WrapOnce : Type 0
-WrapOnce =
-    (before : List ℕ) (identifier n : ℕ) (r r′ : Built) (after after′ : List ℕ)
-    → Wraps before identifier n r after → Wraps before identifier n r′ after′ → (r ≡ r′) × (after ≡ after′)
-
-abbrev pub AnswerOnce : Type 0
-AnswerOnce =
-    (before : List ℕ) (identifier : ℕ) (d : List ℕ) (r r′ : Built) (after after′ : List ℕ)
-    → Answers before identifier d r after → Answers before identifier d r′ after′ → (r ≡ r′) × (after ≡ after′)
-
-abbrev pub BuildOnce : Type 0
-BuildOnce =
-    (before : List ℕ) (identifier : ℕ) (d : List ℕ) (r r′ : Built) (after after′ : List ℕ)
-    → Builds before identifier d r after → Builds before identifier d r′ after′ → (r ≡ r′) × (after ≡ after′)

@@ -1,7 +1,8 @@
 -- What document 01 says of the wire: the bytes with a meaning, numbers of two bytes, the check byte, the table of identifiers.
-use Prim.Native.Nat.{ℕ, _+_, _*_, _/_, _%_}
+use Prim.Native.Nat.{ℕ, _+_, _*_, _/_, _%_, _<_}
 use mathlib.Core.Bool.{Bool, true, false}
 use mathlib.Core.List.{List, [], _∷_}
+use mathlib.Core.Path.{_≡_}
 use lib.Bits.{bitXor}
 use lib.Dec.{eqb, leb}
 use Rattle.frame.specs.Ground.{pick}
@@ -95,3 +96,8 @@ abbrev pub fits : Size → ℕ → Bool
 fits (Exactly k) n = eqb n k
 fits (AtLeast k) n = leb k n
 fits Unlisted n = false
+
+-- The contract of `word`: the rule's number, which two bytes can hold.
+pub record Words (high low r : ℕ) : Type 0 where
+  pub value : r ≡ word high low
+  pub small : r < 65536

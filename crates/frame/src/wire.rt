@@ -1,7 +1,6 @@
 // The check byte, numbers of two bytes and the table of identifiers.
 ghost use mathlib.Core.Path.{_≡_};
-ghost use Prim.Native.Nat.{_<_};
-ghost use Rattle.frame.specs.Wire.{check, check-from, fits, listed, size-of, word};
+ghost use Rattle.frame.specs.Wire.{Words, check, check-from, fits, listed, size-of};
 
 // How many data bytes a frame has at the most.
 pub const DATA: usize = 550;
@@ -27,7 +26,7 @@ pub enum Size {
 
 // The number that two bytes give, the high byte first.
 pub fn word(high: u8, low: u8) -> usize
-    ensures { λ r. ⌜ (r ≡ word high low) × (r < 65536) ⌝ }
+    ensures { λ r. ⌜ Words high low r ⌝ }
 {
     (high as usize) * 256 + (low as usize)
 }

@@ -15,22 +15,22 @@ returns c = search tests
 
 returns-2 : tie.Need-returns-2
 unfolding framed
-returns-2 c = rw (← c .before .word .ensures .0) (search tests)
+returns-2 c = rw (← c .before .word .ensures .value) (search tests)
 
 returns-3 : tie.Need-returns-3
 unfolding framed
-returns-3 c = rw (← c .before .before .word .ensures .0) (search tests)
+returns-3 c = rw (← c .before .before .word .ensures .value) (search tests)
 
 slice-aggregate-check : tie.Need-slice-aggregate-check
 slice-aggregate-check c = sym (length-take-le (c .before .before .before .word .result + 3) (c .before .before .before .before .before .before .before .before .args .s .now) (omega arith))
 
 returns-4 : tie.Need-returns-4
 unfolding framed
-returns-4 c = rw (← c .before .before .before .before .before .before .word .ensures .0, ← c .before .before .check .ensures) (search tests)
+returns-4 c = rw (← c .before .before .before .before .before .before .word .ensures .value, ← c .before .before .check .ensures) (search tests)
 
 returns-5 : tie.Need-returns-5
 unfolding framed
-returns-5 c = rw (← c .before .before .before .before .before .before .before .before .word .ensures .0, ← c .before .before .before .before .check .ensures, ← c .judge .ensures) (search tests)
+returns-5 c = rw (← c .before .before .before .before .before .before .before .before .word .ensures .value, ← c .before .before .before .before .check .ensures, ← c .judge .ensures) (search tests)
 
 pub receive-frame-spec : {M : Type 1} → statement M
 receive-frame-spec =

@@ -82,7 +82,7 @@ returns-3 c =
     let s = at-place-in .before .before .before .before in
     let j = jet at-if1 in
     edit-obeys (s .args .state .now) (s .args .d .now) j (named (at-place-in .place-in .ensures) (at-if1 .if1 .left)) (granted (tested at-has-message) (at-if2 .if2 .left))
-    (rw (part-jet j, at-word .word .ensures .0, lent-tail) at (c .before .before .edit-jet .ensures))
+    (rw (part-jet j, at-word .word .ensures .value, lent-tail) at (c .before .before .edit-jet .ensures))
 
 pub edit-message-spec : {M : Type 1} → statement M
 edit-message-spec =

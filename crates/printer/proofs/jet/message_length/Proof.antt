@@ -9,7 +9,7 @@ use Rattle.printer.proofs.jet.message_length.Tie as tie
 
 returns : tie.Need-returns
 unfolding jet-of
-returns c = c .word .ensures .0 ∙ sym (two-read (c .before .before .before .before .args .jet .now) (omega arith))
+returns c = c .word .ensures .value ∙ sym (two-read (c .before .before .before .before .args .jet .now) (omega arith))
 
 pub message-length-spec : {M : Type 1} → statement M
 message-length-spec =
