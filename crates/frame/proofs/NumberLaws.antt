@@ -228,7 +228,7 @@ pub calls-give-first : CallsGiveFirst
 calls-give-first =
     record {
       receive = λ s r p. first-given (receive-tests s) (number r) (in-order .receives s) (ap number (p .answer) ∙ received-first s);
-      wrap = λ before identifier n r after p. first-given (answer-tests (length before) n) (build.number r) (in-order .answers (length before) n) (p .told .first);
-      answer = λ before identifier d r after p. first-given (answer-tests (length before) (length d)) (build.number r) (in-order .answers (length before) (length d)) (p .told .first);
-      build = λ before identifier d r after p. first-given (build-tests (length before) identifier (length d)) (build.number r) (in-order .builds (length before) identifier (length d)) (p .told .first);
+      wrap = λ before identifier n r after p. first-given (answer-tests (length before) n) (build.number r) (in-order .answers (length before) n) (p .reports .first);
+      answer = λ before identifier d r after p. first-given (answer-tests (length before) (length d)) (build.number r) (in-order .answers (length before) (length d)) (p .reports .first);
+      build = λ before identifier d r after p. first-given (build-tests (length before) identifier (length d)) (build.number r) (in-order .builds (length before) identifier (length d)) (p .reports .first);
     }

@@ -9,7 +9,7 @@ use lib.ListN.{length, take, drop, length-append, length-drop}
 use lib.Seq.{length-take-le}
 use Rattle.frame.specs.Ground.{Refusal, Test, all, over}
 use Rattle.frame.specs.Wire.{check, head-size, around, longest-data}
-use Rattle.frame.specs.Build.{frame, body, given, answered, bytes-of, number, Tells, Wraps}
+use Rattle.frame.specs.Build.{frame, body, decided, answered, bytes-of, number, Reports, Wraps}
 use Rattle.frame.specs.Build as rules
 use Rattle.frame.specs.declared.build.Built.{Built}
 use Rattle.frame.specs.declared.build.Built.the-variants.{Refused, Written}
@@ -22,8 +22,8 @@ frame-length identifier d = omega (arith, length-append d (check (body identifie
 abbrev refused : Refusal → Built
 refused refusal = Refused (refusal .number)
 
-pub told : (tests : List Test) (n identifier : ℕ) (d : List ℕ) (r : Built) → r ≡ given tests n → (all tests ≡ true → length d ≡ n) → Tells tests (bytes-of r identifier d) r
-told tests n identifier d r e h =
+pub reported : (tests : List Test) (n identifier : ℕ) (d : List ℕ) (r : Built) → r ≡ decided tests n → (all tests ≡ true → length d ≡ n) → Reports tests (bytes-of r identifier d) r
+reported tests n identifier d r e h =
     record {
       first = ap number e ∙ checked-map number tests refused (Written (n + around));
       size =
@@ -48,7 +48,7 @@ wrap-fits {before} {identifier} {n} w g h =
     let e = w .answer ∙ answered-fits (length before) n g h in
     (e, w .buffer ∙ ap (λ (x : Built). over (bytes-of x identifier (take n (drop head-size before))) before) e)
 
-pub accepted : (tests : List Test) (n m : ℕ) → Written n ≡ given tests m → (all tests ≡ true) × (n ≡ m + around)
+pub accepted : (tests : List Test) (n m : ℕ) → Written n ≡ decided tests m → (all tests ≡ true) × (n ≡ m + around)
 accepted tests n m e = go (all tests) refl
   where
     same : (k : ℕ) → Written n ≡ Written k → n ≡ k

@@ -32,14 +32,14 @@ abbrev pub build-tests : ℕ → ℕ → ℕ → List Test
 build-tests room identifier n = answer-tests room n ++ (test (listed (size-of identifier)) 6 ∷ [])
 
 -- 01, Other calls: "nothing written; else its length".
-abbrev pub given : List Test → ℕ → Built
-given tests n = checked tests (λ refusal. Refused (refusal .number)) (Written (n + around))
+abbrev pub decided : List Test → ℕ → Built
+decided tests n = checked tests (λ refusal. Refused (refusal .number)) (Written (n + around))
 
 unfoldable pub answered : ℕ → ℕ → Built
-answered room n = given (answer-tests room n) n
+answered room n = decided (answer-tests room n) n
 
 unfoldable pub built : ℕ → ℕ → ℕ → Built
-built room identifier n = given (build-tests room identifier n) n
+built room identifier n = decided (build-tests room identifier n) n
 
 -- The bytes that an answer of the builder says are written.
 abbrev pub bytes-of : Built → ℕ → List ℕ → List ℕ
@@ -56,7 +56,7 @@ frame-length (Refused k) = 0
 frame-length (Written n) = n
 
 -- 01, Numbers: "the first that applies is given"; 01, Other calls: "else its length", of just the bytes that are written.
-pub record Tells (tests : List Test) (bytes : List ℕ) (r : Built) : Type 0 where
+pub record Reports (tests : List Test) (bytes : List ℕ) (r : Built) : Type 0 where
   pub first : number r ≡ first-failing tests
   pub size : frame-length r ≡ length bytes
 
@@ -68,17 +68,17 @@ pub record Lays (before bytes : List ℕ) (r : Bool) (after : List ℕ) : Type 0
 -- The contract of `wrap`: the data that stands in the buffer from place 3 on becomes a frame.
 pub record Wraps (before : List ℕ) (identifier n : ℕ) (r : Built) (after : List ℕ) : Type 0 where
   pub answer : r ≡ answered (length before) n
-  pub told : Tells (answer-tests (length before) n) (bytes-of r identifier (take n (drop head-size before))) r
+  pub reports : Reports (answer-tests (length before) n) (bytes-of r identifier (take n (drop head-size before))) r
   pub buffer : after ≡ over (bytes-of r identifier (take n (drop head-size before))) before
 
 -- The contract of `answer`: the rule's answer, and over the buffer's front just the bytes it tells of.
 pub record Answers (before : List ℕ) (identifier : ℕ) (d : List ℕ) (r : Built) (after : List ℕ) : Type 0 where
   pub answer : r ≡ answered (length before) (length d)
-  pub told : Tells (answer-tests (length before) (length d)) (bytes-of r identifier d) r
+  pub reports : Reports (answer-tests (length before) (length d)) (bytes-of r identifier d) r
   pub buffer : after ≡ over (bytes-of r identifier d) before
 
 -- The contract of `build`: the same, with the table.
 pub record Builds (before : List ℕ) (identifier : ℕ) (d : List ℕ) (r : Built) (after : List ℕ) : Type 0 where
   pub answer : r ≡ built (length before) identifier (length d)
-  pub told : Tells (build-tests (length before) identifier (length d)) (bytes-of r identifier d) r
+  pub reports : Reports (build-tests (length before) identifier (length d)) (bytes-of r identifier d) r
   pub buffer : after ≡ over (bytes-of r identifier d) before

@@ -14,7 +14,7 @@ use Rattle.frame.specs.Build.{answered, answer-tests, bytes-of, frame, L
 use Rattle.frame.specs.declared.build.Built.{Built}
 use Rattle.frame.specs.declared.build.Built.the-variants.{Refused}
 use Rattle.frame.proofs.Ground.{tests, length-over, over-under, laid-behind}
-use Rattle.frame.proofs.Told.{frame-length, told, answered-fits}
+use Rattle.frame.proofs.Told.{frame-length, reported, answered-fits}
 use Rattle.frame.proofs.build.answer.Statement.{statement}
 use Rattle.frame.proofs.build.answer.Tie as tie
 
@@ -27,7 +27,7 @@ answers : (identifier : ℕ) (before d : List ℕ) (r : Built) (after : List ℕ
     → Answers before identifier d r after
 unfolding answered
 answers identifier before d r after e q =
-    record { answer = e; told = told (answer-tests (length before) (length d)) (length d) identifier d r e (λ a. refl); buffer = q }
+    record { answer = e; reports = reported (answer-tests (length before) (length d)) (length d) identifier d r e (λ a. refl); buffer = q }
 
 module _ (identifier : ℕ) (before d last : List ℕ) (laid : Bool) (h : length d ≤ longest-data) (g : length d + around ≤ length before)
     (p : Lays (midOf 3 (length before - 3) before) d laid last) where

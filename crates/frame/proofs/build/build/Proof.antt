@@ -12,7 +12,7 @@ use Rattle.frame.specs.Build.{built, answered, build-tests, bytes-of, An
 use Rattle.frame.specs.declared.build.Built.{Built}
 use Rattle.frame.specs.declared.build.Built.the-variants.{Refused}
 use Rattle.frame.proofs.Ground.{tests}
-use Rattle.frame.proofs.Told.{told}
+use Rattle.frame.proofs.Told.{reported}
 use Rattle.frame.proofs.build.build.Statement.{statement}
 use Rattle.frame.proofs.build.build.Tie as tie
 
@@ -21,7 +21,7 @@ builds : (before : List ℕ) (identifier : ℕ) (d : List ℕ) (r : Built) (afte
     → Builds before identifier d r after
 unfolding built
 builds before identifier d r after e q =
-    record { answer = e; told = told (build-tests (length before) identifier (length d)) (length d) identifier d r e (λ a. refl); buffer = q }
+    record { answer = e; reports = reported (build-tests (length before) identifier (length d)) (length d) identifier d r e (λ a. refl); buffer = q }
 
 unknown : (before : List ℕ) (identifier : ℕ) (d : List ℕ) → length d + around ≤ length before → length d ≤ longest-data → listed (size-of identifier) ≡ false
     → Builds before identifier d (Refused 6) before

@@ -14,7 +14,7 @@ use Rattle.frame.specs.Build.{answered, answer-tests, bytes-of, frame, h
 use Rattle.frame.specs.declared.build.Built.{Built}
 use Rattle.frame.specs.declared.build.Built.the-variants.{Refused, Written}
 use Rattle.frame.proofs.Ground.{both-true, over-next, over-kept}
-use Rattle.frame.proofs.Told.{told, answered-fits, data-held}
+use Rattle.frame.proofs.Told.{reported, answered-fits, data-held}
 use Rattle.frame.proofs.build.wrap.Statement.{statement}
 use Rattle.frame.proofs.build.wrap.Tie as tie
 
@@ -33,7 +33,7 @@ wraps identifier n before r after e q =
     let tests : List Test = answer-tests (length before) n in
     record {
       answer = e;
-      told = told tests n identifier (held n before) r e (λ a. data-held n before (leb-true (n + around) (length before) (both-true (leb (n + around) (length before)) _ a .0)));
+      reports = reported tests n identifier (held n before) r e (λ a. data-held n before (leb-true (n + around) (length before) (both-true (leb (n + around) (length before)) _ a .0)));
       buffer = q;
     }
 
