@@ -21,15 +21,18 @@ unfoldable pub frame : ℕ → List ℕ → List ℕ
 frame identifier d = body identifier d ++ (check (body identifier d) ∷ [])
 
 -- 01, Other calls: "2 if the buffer is under data + 4, 4 if data is over 550, 6 if the identifier is not in the table".
--- An answer's identifier need not stand in the table.
+-- An answer's identifier need not stand in the table; of a frame that is built, those of the table are known.
 abbrev pub answer-tests : ℕ → ℕ → List Test
 answer-tests room n =
     test (leb (n + around) room) 2
     ∷ test (leb n longest-data) 4
     ∷ []
 
+abbrev pub send-tests : ℕ → Bool → ℕ → List Test
+send-tests room known n = answer-tests room n ++ (test known 6 ∷ [])
+
 abbrev pub build-tests : ℕ → ℕ → ℕ → List Test
-build-tests room identifier n = answer-tests room n ++ (test (listed (size-of identifier)) 6 ∷ [])
+build-tests room identifier n = send-tests room (listed (size-of identifier)) n
 
 -- 01, Other calls: "nothing written; else its length".
 abbrev pub decided : List Test → ℕ → Built
@@ -70,6 +73,11 @@ pub record Wraps (before : List ℕ) (identifier n : ℕ) (r : Built) (after : L
   pub answer : r ≡ answered (length before) n
   pub reports : Reports (answer-tests (length before) n) (bytes-of r identifier (take n (drop head-size before))) r
   pub buffer : after ≡ over (bytes-of r identifier (take n (drop head-size before))) before
+
+-- The contract of `send`: the rule's answer to a frame whose identifier is known or not, and the bytes it tells of.
+pub record Sends (before : List ℕ) (identifier : ℕ) (d : List ℕ) (known : Bool) (r : Built) (after : List ℕ) : Type 0 where
+  pub answer : r ≡ decided (send-tests (length before) known (length d)) (length d)
+  pub buffer : after ≡ over (bytes-of r identifier d) before
 
 -- The contract of `answer`: the rule's answer, and over the buffer's front just the bytes it tells of.
 pub record Answers (before : List ℕ) (identifier : ℕ) (d : List ℕ) (r : Built) (after : List ℕ) : Type 0 where

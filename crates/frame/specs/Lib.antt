@@ -1,6 +1,6 @@
 -- The rules of `frame`: `Ground` has the words that all three crates share, `Numbers` the order of the numbers, each room of src/ has
--- its page of rules; `NumberLaws` says which number is given, `Laws` what else
--- holds of them together, `Unique` that no contract allows a second outcome.
+-- its page of rules; `NumberLaws` says which number is given, `Laws` what else holds of them together, `Unique` that no contract allows
+-- a second outcome.
 pub mod Ground
 pub mod Numbers
 pub mod Wire

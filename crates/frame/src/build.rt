@@ -9,7 +9,7 @@ ghost use Prim.Native.Nat.{_≤_};
 ghost use lib.ListN.{length};
 ghost use mathlib.Core.Path.{_≡_};
 ghost use Rattle.frame.specs.Ground.{over};
-ghost use Rattle.frame.specs.Build.{Answers, Builds, Lays, Wraps};
+ghost use Rattle.frame.specs.Build.{Answers, Builds, Lays, Sends, Wraps};
 
 pub enum Built {
     // Numbers 2, 4 and 6: the buffer is under data + 4, data is over 550, the identifier is not in the table.
@@ -79,9 +79,9 @@ pub fn wrap(out: &mut [u8], identifier: u8, n: usize) -> Built
     Built::Written(n + AROUND)
 }
 
-// Writes a frame with any identifier: also one that stands only in answers, as 9Ch.
-pub fn answer(out: &mut [u8], identifier: u8, bytes: &[u8]) -> Built
-    ensures { λ r. ⌜ Answers (now (out .entry)) identifier (now (bytes .entry)) r (now (out .exit)) ⌝ }
+// Writes a frame, if it fits and its identifier is known.
+fn send(out: &mut [u8], identifier: u8, bytes: &[u8], known: bool) -> Built
+    ensures { λ r. ⌜ Sends (now (out .entry)) identifier (now (bytes .entry)) known r (now (out .exit)) ⌝ }
 {
     let n = bytes.len();
     if out.len() < n + AROUND {
@@ -90,23 +90,23 @@ pub fn answer(out: &mut [u8], identifier: u8, bytes: &[u8]) -> Built
     if DATA < n {
         return Built::Refused(4);
     }
+    if !known {
+        return Built::Refused(6);
+    }
     lay(&mut out[HEAD..], bytes);
     wrap(out, identifier, n)
+}
+
+// Writes a frame with any identifier: also one that stands only in answers, as 9Ch.
+pub fn answer(out: &mut [u8], identifier: u8, bytes: &[u8]) -> Built
+    ensures { λ r. ⌜ Answers (now (out .entry)) identifier (now (bytes .entry)) r (now (out .exit)) ⌝ }
+{
+    send(out, identifier, bytes, true)
 }
 
 // Writes a frame that the box can be sent.
 pub fn build(out: &mut [u8], identifier: u8, bytes: &[u8]) -> Built
     ensures { λ r. ⌜ Builds (now (out .entry)) identifier (now (bytes .entry)) r (now (out .exit)) ⌝ }
 {
-    let n = bytes.len();
-    if out.len() < n + AROUND {
-        return Built::Refused(2);
-    }
-    if DATA < n {
-        return Built::Refused(4);
-    }
-    if !listed(size_of(identifier)) {
-        return Built::Refused(6);
-    }
-    answer(out, identifier, bytes)
+    send(out, identifier, bytes, listed(size_of(identifier)))
 }

@@ -64,34 +64,18 @@ pub(crate) fn check(s: &[u8]) -> u8
 pub(crate) fn size_of(identifier: u8) -> Size
     ensures { λ r. ⌜ r ≡ size-of identifier ⌝ }
 {
-    if identifier == 0x0A {
-        return Size::AtLeast(2);
+    match identifier {
+        0x0A => Size::AtLeast(2),
+        0x0B => Size::Exactly(38),
+        0x0C => Size::AtLeast(39),
+        0x39 => Size::Exactly(1),
+        0x42 => Size::AtLeast(4),
+        0x43 => Size::Exactly(1),
+        0x52 => Size::Exactly(0),
+        0x94 => Size::Exactly(0),
+        0xD6 => Size::Exactly(0),
+        _ => Size::Unlisted,
     }
-    if identifier == 0x0B {
-        return Size::Exactly(38);
-    }
-    if identifier == 0x0C {
-        return Size::AtLeast(39);
-    }
-    if identifier == 0x39 {
-        return Size::Exactly(1);
-    }
-    if identifier == 0x42 {
-        return Size::AtLeast(4);
-    }
-    if identifier == 0x43 {
-        return Size::Exactly(1);
-    }
-    if identifier == 0x52 {
-        return Size::Exactly(0);
-    }
-    if identifier == 0x94 {
-        return Size::Exactly(0);
-    }
-    if identifier == 0xD6 {
-        return Size::Exactly(0);
-    }
-    Size::Unlisted
 }
 
 // Whether the identifier stands in the table.

@@ -1,102 +1,30 @@
--- `frame::build::answer` meets its contract. Its tests are `wrap`'s own; behind them `lay` leaves the data from place 3 on, so that the frame that `wrap` makes of it is the rule's.
-use Prim.Native.Nat.{ℕ, _+_, _-_, _≤_}
-use mathlib.Core.Bool.{Bool}
-use mathlib.Core.List.{List, _++_, append-assoc}
-use mathlib.Core.Path.{_≡_, refl, sym, _∙_, ap, ap₂}
-use native.Mathlib.Omega.{arith}
+-- `frame::build::answer` meets its contract: a frame whose identifier is known is refused by an answer's tests alone.
+use Prim.Native.Nat.{ℕ}
+use mathlib.Core.Bool.{true}
+use mathlib.Core.List.{List}
+use mathlib.Core.Path.{refl}
 use borrow.Author.Needs.{needs}
-use borrow.Rule.Slice.PartMut.{midOf, putMid}
-use lib.ListN.{length, take, drop, length-append, take-append-drop}
-use lib.Seq.{length-take-le, take-append-seam, drop-at}
-use Rattle.frame.specs.Ground.{over}
-use Rattle.frame.specs.Wire.{head-size, around, longest-data}
-use Rattle.frame.specs.Build.{answered, answer-tests, bytes-of, frame, Lays, Wraps, Answers}
+use lib.ListN.{length}
+use Rattle.frame.specs.Build.{answered, answer-tests, Sends, Answers}
 use Rattle.frame.specs.declared.build.Built.{Built}
-use Rattle.frame.specs.declared.build.Built.the-variants.{Refused}
-use Rattle.frame.proofs.Ground.{tests, length-over, over-under, laid-behind}
-use Rattle.frame.proofs.Told.{frame-length, reported, answered-fits}
+use Rattle.frame.proofs.Told.{reported}
 use Rattle.frame.proofs.build.answer.Statement.{statement}
 use Rattle.frame.proofs.build.answer.Tie as tie
 
--- The buffer when what was lent behind its first three bytes is back.
-abbrev back : List ℕ → List ℕ → List ℕ
-back xs last = putMid 3 (length xs - 3) xs last
-
--- The rule's answer, and the bytes that it tells of.
-answers : (identifier : ℕ) (before d : List ℕ) (r : Built) (after : List ℕ) → r ≡ answered (length before) (length d) → after ≡ over (bytes-of r identifier d) before
-    → Answers before identifier d r after
+answers : (before : List ℕ) (identifier : ℕ) (d : List ℕ) (r : Built) (after : List ℕ) → Sends before identifier d true r after → Answers before identifier d r after
 unfolding answered
-answers identifier before d r after e q =
-    record { answer = e; reports = reported (answer-tests (length before) (length d)) (length d) identifier d r e (λ a. refl); buffer = q }
-
-module _ (identifier : ℕ) (before d last : List ℕ) (laid : Bool) (h : length d ≤ longest-data) (g : length d + around ≤ length before)
-    (p : Lays (midOf 3 (length before - 3) before) d laid last) where
-  three : length (take 3 before) ≡ 3
-  three = length-take-le 3 before (omega arith)
-
-  behind : back before last ≡ over (take 3 before ++ d) before
-  behind =
-      laid-behind 3 (take 3 before) d before last laid before three (omega arith)
-      (sym (ap (λ (k : ℕ). take 3 before ++ drop k before) three ∙ take-append-drop 3 before)) p
-
-  longer : length (take 3 before ++ d) ≡ length d + head-size
-  longer = length-append (take 3 before) d ∙ ap (λ (k : ℕ). k + length d) three ∙ omega arith
-
-  same-room : length (back before last) ≡ length before
-  same-room = ap length behind ∙ length-over (take 3 before ++ d) before (omega (arith, longer))
-
-  same-data : take (length d) (drop 3 (back before last)) ≡ d
-  same-data =
-      let rest : List ℕ = drop (length (take 3 before ++ d)) before in
-      ap (λ (l : List ℕ). take (length d) (drop 3 l)) (behind ∙ append-assoc (take 3 before) d rest)
-      ∙ ap (take (length d)) (drop-at (take 3 before) (d ++ rest) 3 three)
-      ∙ take-append-seam d rest
-
-  same-rest : over (frame identifier d) (back before last) ≡ over (frame identifier d) before
-  same-rest = ap (over (frame identifier d)) behind ∙ over-under (frame identifier d) (take 3 before ++ d) before (omega (arith, longer, frame-length identifier d))
-
-  written : (r : Built) (after : List ℕ) → Wraps (back before last) identifier (length d) r after → Answers before identifier d r after
-  written r after w =
-      let fits = answered-fits (length before) (length d) g h in
-      let e : r ≡ answered (length before) (length d) = w .answer ∙ ap (λ (k : ℕ). answered k (length d)) same-room in
-      answers identifier before d r after e
-      (w .buffer
-      ∙ ap₂ (λ (x : Built) (l : List ℕ). over (bytes-of x identifier l) (back before last)) (e ∙ fits) same-data
-      ∙ same-rest
-      ∙ ap (λ (x : Built). over (bytes-of x identifier d) before) (sym (e ∙ fits)))
+answers before identifier d r after s =
+    record {
+      answer = s .answer;
+      reports = reported (answer-tests (length before) (length d)) (length d) identifier d r (s .answer) (λ a. refl);
+      buffer = s .buffer;
+    }
 
 returns : tie.Need-returns
-unfolding answered
 returns c =
-    let a = c .before .before .before .args in
-    answers (a .identifier) (a .out .now) (a .bytes .now) (Refused 2) (a .out .now) (search tests) refl
-
-returns-2 : tie.Need-returns-2
-unfolding answered
-returns-2 c =
-    let a = c .before .before .before .before .args in
-    answers (a .identifier) (a .out .now) (a .bytes .now) (Refused 4) (a .out .now) (search tests) refl
-
-returns-3 : tie.Need-returns-3
-returns-3 c =
-    let tests = c .before .before .before .before .before .before .before .before in
-    let a = tests .before .before .before .before .args in
-    let lay = c .before .before .before .before .before .before .lay in
-    let wrap = c .before .before .wrap in
-    written (a .identifier) (a .out .now) (a .bytes .now) (lay .last .0) (lay .result) (tests .if2 .left) (tests .before .if1 .left) (lay .ensures)
-    (wrap .result) (wrap .last .0) (wrap .ensures)
+    let a = c .before .before .before .before .before .before .args in
+    let s = c .before .before .send in
+    answers (a .out .now) (a .identifier) (a .bytes .now) (s .result) (s .last .0) (s .ensures)
 
 pub answer-spec : {M : Type 1} → statement M
-answer-spec =
-    tie.close
-    (tie.spec
-    (λ c. search needs)
-    returns
-    returns-2
-    (λ c. search needs)
-    (λ c. search needs)
-    (λ c. search needs)
-    (λ c κs. search needs)
-    (λ c κs. search needs)
-    (λ c. search needs)
-    returns-3)
+answer-spec = tie.close (tie.spec (λ c κs. search needs) (λ c. search needs) returns)
