@@ -14,6 +14,7 @@ pub mod Changes
 pub mod ChangeLaws
 pub mod StripLaws
 pub mod Name
+pub mod NumberLaws
 pub mod Unique
 pub mod Told
 pub mod Tokens

@@ -5,7 +5,7 @@ use mathlib.Core.List.{List, [], _∷_}
 use mathlib.Core.Path.{_≡_}
 use lib.Dec.{leb}
 use lib.ListN.{length}
-use Rattle.frame.specs.Ground.{pick, both}
+use Rattle.frame.specs.Ground.{Test, both, first-failing, test}
 use Rattle.content.specs.Machine.{Mode, Reading, Done, Bad, start, step}
 use Rattle.content.specs.declared.test.Verdict.{Verdict}
 use Rattle.content.specs.declared.test.Verdict.the-variants.{Good, Unfit}
@@ -44,8 +44,11 @@ unfoldable pub is-content : List ℕ → Bool
 is-content s = both (leb (length s) longest-message) (is-good (verdict s))
 
 -- 01, Other calls: "test a content (0 or 10), for our approval screen".
+abbrev pub content-tests : List ℕ → List Test
+content-tests s = test (is-content s) 10 ∷ []
+
 unfoldable pub tested : List ℕ → ℕ
-tested s = pick (is-content s) 0 10
+tested s = first-failing (content-tests s)
 
 -- The contract of `read`.
 pub record Reads (s : List ℕ) (r : Verdict) : Type 0 where

@@ -14,4 +14,5 @@ pub mod Tree
 pub mod Laws
 pub mod ChangeLaws
 pub mod StripLaws
+pub mod NumberLaws
 pub mod Unique

@@ -15,14 +15,13 @@ use Rattle.frame.specs.Ground.{pick, unless, has, Test, test, first-fail
 use Rattle.frame.specs.Wire.{enquiry, update-opens, update-closes, longest-update, update-marks, check, head-size, around, longest-data, size-of, listed, fits}
 use Rattle.frame.specs.Receive.{received, updated, judged, framed, run, text-space, data-length, number}
 use Rattle.frame.specs.Numbers as numbers
-use Rattle.frame.specs.Numbers.{FirstGiven}
 use Rattle.frame.specs.Build as build
 use Rattle.frame.specs.Build.{answer-tests, build-tests}
 use Rattle.frame.specs.NumberLaws.{not-whole, too-long, ThreeFourApart, NumbersGiven, frame-tests, is-frame, receive-tests, InOrder, CallsGiveFirst}
 use Rattle.frame.specs.declared.receive.Received.{Received}
 use Rattle.frame.specs.declared.receive.Received.the-variants.{Partial, Refused, Misfit, Enquiry, Update, Frame}
 use Rattle.frame.proofs.Ground.{pick-case, never}
-use Rattle.frame.proofs.Numbers.{gives-first}
+use Rattle.frame.proofs.Numbers.{first-given}
 use Rattle.frame.proofs.Laws.{verified, verified-case}
 
 -- ---- Numbers as tests.
@@ -210,7 +209,7 @@ else-received s =
     (λ g. rw (h, g) (else-updated s (run update-closes (text-space s))))
     (λ g. rw (h, g) (else-framed s))))
 
-received-first : (s : List ℕ) → number (received s) ≡ first-failing (receive-tests s)
+pub received-first : (s : List ℕ) → number (received s) ≡ first-failing (receive-tests s)
 received-first s = behind-four (number (received s)) (not-whole s) (too-long s) (pick (is-frame s) (frame-tests s) []) (number-three s) (number-four s) (else-received s)
 
 pub in-order : InOrder
@@ -219,10 +218,6 @@ in-order = record { receives = λ s. go (is-frame s) s; answers = λ room n. ref
     go : (b : Bool) (s : List ℕ) → numbers.in-order (test (not (not-whole s)) 3 ∷ test (not (too-long s)) 4 ∷ pick b (frame-tests s) []) ≡ true
     go true s = refl
     go false s = refl
-
--- A number that is the first failing test's is the first that applies.
-first-given : (ts : List Test) (k : ℕ) → numbers.in-order ts ≡ true → k ≡ first-failing ts → FirstGiven ts k
-first-given ts k o e = subst (FirstGiven ts) (sym e) (gives-first ts o)
 
 pub calls-give-first : CallsGiveFirst
 calls-give-first =

@@ -45,3 +45,7 @@ gives-first (t ∷ ts) e =
     let h = both-true (has (t .otherwise .number) numbers) _ e in
     let l = both-true (leads (t .otherwise .number) ts) (in-order ts) (h .1) in
     in-front (t .holds) (t .otherwise) ts (h .0) (l .0) (gives-first ts (l .1))
+
+-- A number that is the first failing test's is the first that applies.
+pub first-given : (ts : List Test) (k : ℕ) → in-order ts ≡ true → k ≡ first-failing ts → FirstGiven ts k
+first-given ts k o e = subst (FirstGiven ts) (sym e) (gives-first ts o)

@@ -1,13 +1,26 @@
--- The tests of every frame and call stand in the order of their numbers, by computation.
-use mathlib.Core.Bool.{true}
-use mathlib.Core.Path.{_≡_, refl}
+-- The tests of every frame and call stand in the order of their numbers, by computation; what the box says is the first that fails.
+use Prim.Native.Nat.{ℕ}
+use mathlib.Core.Bool.{Bool, true, false, not}
+use mathlib.Core.List.{List, [], _∷_, _++_, append-nil}
+use mathlib.Core.Path.{_≡_, refl, sym, _∙_, ap}
+use lib.ListN.{take, drop}
+use Rattle.frame.specs.Ground.{Refusal, Test, checked, first-failing, pick, test}
 use Rattle.frame.specs.Numbers.{in-order}
+use Rattle.frame.specs.NumberLaws.{frame-tests, is-frame, not-whole, receive-tests, too-long}
+use Rattle.frame.specs.Receive.{number, received}
+use Rattle.frame.specs.declared.receive.Received.{Received}
+use Rattle.frame.specs.declared.receive.Received.the-variants.{Partial, Refused, Misfit, Enquiry, Update, Frame}
+use Rattle.frame.proofs.Ground.{checked-all, checked-append, checked-map}
+use Rattle.frame.proofs.Numbers.{first-given}
+use Rattle.frame.proofs.NumberLaws.{in-order as frame-order, received-first}
 use Rattle.printer.specs.Order.{Order}
 use Rattle.printer.specs.Change.{set-message, set-parameters, set-both, edit-message, update-fields}
 use Rattle.printer.specs.Request.{ask-counter, ask-message, ask-table, ask-clock}
 use Rattle.printer.specs.Print.{print}
 use Rattle.printer.specs.Call.{set-clock, tick-clock}
-use Rattle.printer.specs.NumberLaws.{InOrder}
+use Rattle.printer.specs.Receive.{Handed, Outcome, done, handled, handing-tests, obeyed, order, outcome, refusal, silent}
+use Rattle.printer.specs.State.{Printer, printer-of}
+use Rattle.printer.specs.NumberLaws.{CallsGiveFirst, InOrder, asked-tests, outcome-tests}
 use Rattle.printer.proofs.OrderLaws.{order-case}
 
 pub numbers-in-order : InOrder
@@ -22,4 +35,84 @@ numbers-in-order =
       fresh = λ m model clock. refl;
       clock = λ m clock. refl;
       tick = λ m. refl;
+    }
+
+-- ---- What is handed in.
+-- Behind the receiver's tests nothing is asked, or the tests of an update or a frame, where all of them hold.
+nothing-asked : (s : List ℕ) → first-failing (receive-tests s) ≡ first-failing (receive-tests s ++ [])
+nothing-asked s = ap first-failing (sym (append-nil (receive-tests s)))
+
+then-asked : (s : List ℕ) (ts : List Test) → 0 ≡ first-failing (receive-tests s) → first-failing ts ≡ first-failing (receive-tests s ++ ts)
+then-asked s ts e =
+    let held = first-given (receive-tests s) 0 (frame-order .receives s) e .none .0 refl in
+    let give : Refusal → ℕ = λ r. r .number in
+    sym (checked-append (receive-tests s) ts give 0 ∙ checked-all (receive-tests s) give (first-failing ts) held)
+
+obeyed-number : (p : Printer) (o : Order) (consumed : ℕ) → obeyed p o consumed .number ≡ first-failing (o .tests)
+unfolding obeyed
+obeyed-number p o consumed = checked-map (λ (x : Outcome). x .number) (o .tests) (λ (r : Refusal). refusal p (r .number) consumed) (done o consumed)
+
+-- So what the box says of what was received is the receiver's number, or that of the first test of what is asked that fails.
+handled-number : (p : Printer) (s : List ℕ) (r : Received) → number r ≡ first-failing (receive-tests s)
+    → handled p s r .number ≡ first-failing (receive-tests s ++ asked-tests p s r)
+unfolding obeyed
+handled-number p s Partial e = e ∙ nothing-asked s
+handled-number p s (Refused k c) e = e ∙ nothing-asked s
+handled-number p s (Misfit k i n c) e = e ∙ nothing-asked s
+handled-number p s Enquiry e = e ∙ nothing-asked s
+handled-number p s (Update n c) e = obeyed-number p (update-fields p (take n (drop 1 s))) c ∙ then-asked s _ e
+handled-number p s (Frame i n c) e = obeyed-number p (order p i (take n (drop 3 s))) c ∙ then-asked s _ e
+
+outcome-number : (m : List ℕ) (h : Handed) → outcome m h .number ≡ first-failing (outcome-tests m h)
+unfolding outcome
+outcome-number m h =
+    let p = printer-of m in
+    let s = h .bytes in
+    checked-map (λ (o : Outcome). o .number) (handing-tests m h) (λ (r : Refusal). silent p (r .number)) (handled p s (received s))
+    ∙ ap (checked (handing-tests m h) (λ (r : Refusal). r .number)) (handled-number p s (received s) (received-first s))
+    ∙ sym (checked-append (handing-tests m h) (receive-tests s ++ asked-tests p s (received s)) (λ (r : Refusal). r .number) 0)
+
+-- All these tests are in order, by computation, whether a frame was received or not and whatever it asks.
+abbrev Ordered : List ℕ → Handed → List Test → Bool → Type 0
+Ordered m h o b =
+    in-order
+    (handing-tests m h
+    ++ ((test (not (not-whole (h .bytes))) 3 ∷ test (not (too-long (h .bytes))) 4 ∷ pick b (frame-tests (h .bytes)) []) ++ o))
+    ≡ true
+
+ordered : (m : List ℕ) (h : Handed) (o : List Test) → Ordered m h o true → Ordered m h o false → Ordered m h o (is-frame (h .bytes))
+ordered m h o p q = go (is-frame (h .bytes))
+  where
+    go : (b : Bool) → Ordered m h o b
+    go true = p
+    go false = q
+
+asked-ordered : (m : List ℕ) (h : Handed) (r : Received) → Ordered m h (asked-tests (printer-of m) (h .bytes) r) (is-frame (h .bytes))
+unfolding set-message set-parameters set-both edit-message update-fields ask-counter ask-message ask-table ask-clock print
+asked-ordered m h Partial = ordered m h [] refl refl
+asked-ordered m h (Refused k c) = ordered m h [] refl refl
+asked-ordered m h (Misfit k i n c) = ordered m h [] refl refl
+asked-ordered m h Enquiry = ordered m h [] refl refl
+asked-ordered m h (Update n c) = ordered m h (update-fields (printer-of m) (take n (drop 1 (h .bytes))) .tests) refl refl
+asked-ordered m h (Frame i n c) =
+    let p = printer-of m in
+    let d = take n (drop 3 (h .bytes)) in
+    order-case (λ (o : Order). Ordered m h (o .tests) (is-frame (h .bytes))) p i d
+    (λ _. ordered m h (set-message p d .tests) refl refl)
+    (λ _. ordered m h (set-parameters p d .tests) refl refl)
+    (λ _. ordered m h (set-both p d .tests) refl refl)
+    (λ _. ordered m h (ask-counter p d .tests) refl refl)
+    (λ _. ordered m h (edit-message p d .tests) refl refl)
+    (λ _. ordered m h (ask-message p d .tests) refl refl)
+    (λ _. ordered m h (ask-table p .tests) refl refl)
+    (λ _. ordered m h (print p .tests) refl refl)
+    (λ _ _. ordered m h (ask-clock p .tests) refl refl)
+
+pub calls-give-first : CallsGiveFirst
+calls-give-first =
+    record {
+      receive = λ m h. first-given (outcome-tests m h) (outcome m h .number) (asked-ordered m h (received (h .bytes))) (outcome-number m h);
+      fresh = λ m model clock r m′ p. first-given _ r (numbers-in-order .fresh m model clock) (p .number);
+      clock = λ m clock r m′ p. first-given _ r (numbers-in-order .clock m clock) (p .number);
+      tick = λ m r m′ p. first-given _ r (numbers-in-order .tick m) (p .number);
     }

@@ -1,17 +1,21 @@
 -- The tests of every frame and call of the printer stand in the order of the numbers, so that of those that apply the first is given.
 use Prim.Native.Nat.{ℕ}
 use mathlib.Core.Bool.{true}
-use mathlib.Core.List.{List, _∷_}
+use mathlib.Core.List.{List, [], _∷_, _++_}
 use mathlib.Core.Path.{_≡_}
 use lib.Dec.{eqb}
-use lib.ListN.{length}
-use Rattle.frame.specs.Ground.{test}
-use Rattle.frame.specs.Numbers.{in-order}
-use Rattle.printer.specs.State.{Printer, state-size}
-use Rattle.printer.specs.Order.{Order}
+use lib.ListN.{length, take, drop}
+use Rattle.frame.specs.Ground.{Test, test}
+use Rattle.frame.specs.Numbers.{FirstGiven, in-order}
+use Rattle.frame.specs.NumberLaws.{receive-tests}
+use Rattle.frame.specs.Receive.{received}
+use Rattle.frame.specs.declared.receive.Received.{Received}
+use Rattle.frame.specs.declared.receive.Received.the-variants.{Partial, Refused, Misfit, Enquiry, Update, Frame}
+use Rattle.printer.specs.State.{Printer, printer-of, state-size}
+use Rattle.printer.specs.Order.{Obeys, Order}
 use Rattle.printer.specs.Change.{update-fields}
-use Rattle.printer.specs.Receive.{Handed, order, handing-tests}
-use Rattle.printer.specs.Call.{fresh-tests, set-clock, tick-clock}
+use Rattle.printer.specs.Receive.{Handed, handing-tests, order, outcome}
+use Rattle.printer.specs.Call.{Freshens, fresh-tests, set-clock, tick-clock}
 use Rattle.printer.specs.declared.clock.Clock.{Clock}
 
 -- 01, Numbers: "Checked in this order". Of each frame, an update, the bytes handed in, a fresh printer, setting the clock, a tick.
@@ -22,3 +26,30 @@ pub record InOrder : Type 0 where
   pub fresh : (m : List ℕ) (model : ℕ) (clock : Clock) → in-order (test (eqb (length m) state-size) 1 ∷ fresh-tests model clock) ≡ true
   pub clock : (m : List ℕ) (clock : Clock) → in-order (set-clock m clock .tests) ≡ true
   pub tick : (m : List ℕ) → in-order (tick-clock m .tests) ≡ true
+
+-- What the box asks of what is handed in, from the state to the last byte: 1 and 2 of the state and the buffers, 3 to 7 of the bytes
+-- received, and then the tests of the update or of the frame.
+abbrev pub asked-tests : Printer → List ℕ → Received → List Test
+asked-tests p s Partial = []
+asked-tests p s (Refused number consumed) = []
+asked-tests p s (Misfit number identifier n consumed) = []
+asked-tests p s Enquiry = []
+asked-tests p s (Update n consumed) = update-fields p (take n (drop 1 s)) .tests
+asked-tests p s (Frame identifier n consumed) = order p identifier (take n (drop 3 s)) .tests
+
+abbrev pub outcome-tests : List ℕ → Handed → List Test
+outcome-tests m h =
+    handing-tests m h ++ (receive-tests (h .bytes) ++ asked-tests (printer-of m) (h .bytes) (received (h .bytes)))
+
+-- 01, Numbers: "Checked in this order; the first that applies is given, and none otherwise". Of each call that gives a number.
+pub record CallsGiveFirst : Type 0 where
+  pub receive : (m : List ℕ) (h : Handed) → FirstGiven (outcome-tests m h) (outcome m h .number)
+  pub fresh :
+      (m : List ℕ) (model : ℕ) (clock : Clock) (r : ℕ) (m′ : List ℕ) →
+      Freshens m model clock r m′ →
+      FirstGiven (test (eqb (length m) state-size) 1 ∷ fresh-tests model clock) r
+  pub clock :
+      (m : List ℕ) (clock : Clock) (r : ℕ) (m′ : List ℕ) →
+      Obeys (set-clock m clock) m r m′ →
+      FirstGiven (set-clock m clock .tests) r
+  pub tick : (m : List ℕ) (r : ℕ) (m′ : List ℕ) → Obeys (tick-clock m) m r m′ → FirstGiven (tick-clock m .tests) r

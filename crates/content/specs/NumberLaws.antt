@@ -1,0 +1,41 @@
+-- The numbers of the content test, of an edit, of an update and of a strip: of those that apply the first is given.
+use Prim.Native.Nat.{ℕ}
+use mathlib.Core.Bool.{true}
+use mathlib.Core.List.{List}
+use mathlib.Core.Path.{_≡_}
+use lib.ListN.{length}
+use Rattle.frame.specs.Numbers.{FirstGiven, in-order}
+use Rattle.content.specs.Content.{Tests, content-tests}
+use Rattle.content.specs.Edit as edit
+use Rattle.content.specs.Edit.{Edits, edit-tests}
+use Rattle.content.specs.Update as update
+use Rattle.content.specs.Update.{Updates, update-tests}
+use Rattle.content.specs.Strip as strip
+use Rattle.content.specs.Strip.{Puts, put-tests}
+use Rattle.content.specs.declared.edit.Edited.{Edited}
+use Rattle.content.specs.declared.update.Updated.{Updated}
+use Rattle.content.specs.declared.strip.Values.{Values}
+use Rattle.content.specs.declared.strip.Stripped.{Stripped}
+
+-- 01, Numbers: "Checked in this order". `write_strip` alone asks 10 before 2: what is no content has no strip that could fit.
+pub record InOrder : Type 0 where
+  pub tests : (s : List ℕ) → in-order (content-tests s) ≡ true
+  pub edits : (s : List ℕ) (address : ℕ) (symbols : List ℕ) → in-order (edit-tests s address symbols) ≡ true
+  pub updates : (text : List ℕ) → in-order (update-tests text) ≡ true
+  pub puts : (s : List ℕ) (room : ℕ) → in-order (put-tests s room) ≡ true
+
+-- 01, Numbers: "the first that applies is given, and none otherwise". Of each call that gives a number.
+pub record CallsGiveFirst : Type 0 where
+  pub test : (s : List ℕ) (r : ℕ) → Tests s r → FirstGiven (content-tests s) r
+  pub edit :
+      (before : List ℕ) (address : ℕ) (symbols : List ℕ) (r : Edited) (after : List ℕ) →
+      Edits before address symbols r after →
+      FirstGiven (edit-tests before address symbols) (edit.number r)
+  pub update :
+      (before text : List ℕ) (from : ℕ) (r : Updated) (after : List ℕ) →
+      Updates before text from r after →
+      FirstGiven (update-tests text) (update.number r)
+  pub put :
+      (v : Values) (s before : List ℕ) (r : Stripped) (after : List ℕ) →
+      Puts v s before r after →
+      FirstGiven (put-tests s (length before)) (strip.number r)
