@@ -1,5 +1,5 @@
 -- The demands, each proved in the file that is named beside it.
-use Rattle.printer.specs.Demands.{BadState, ShortBuffer, RefusedStays, AcknowledgedExactly, ExactEffect, EffectKept, RoomEnough, BuiltReadAsBuilt, ReachedValid, MessagesHeld, NothingHeld, EditsOnlyAddressed, UpdatesOnlyFields, PrintRefusedExactly, StripsPrinted}
+use Rattle.printer.specs.Demands.{BadState, ShortBuffer, RefusedStays, AcknowledgedExactly, ExactEffect, EffectKept, RoomEnough, BuiltReadAsBuilt, ReachedValid, MessagesHeld, NothingHeld, EditsOnlyAddressed, UpdatesOnlyFields, PrintRefusedExactly, StripsPrinted, PrintedAsAccepted}
 use Rattle.printer.proofs.Refusing as refusing
 use Rattle.printer.proofs.Accepting as accepting
 use Rattle.printer.proofs.Building as building
@@ -54,3 +54,6 @@ print-refused-exactly = printing.print-refused-exactly
 
 pub strips-printed : StripsPrinted
 strips-printed = printing.strips-printed
+
+pub printed-as-accepted : PrintedAsAccepted
+printed-as-accepted = reaching.printed-as-accepted

@@ -170,7 +170,7 @@ module _ (p : Printer) (four : length (p .jets) ≡ 4) (jet : ℕ) (k : 1 ≤ je
   leads-follow q b (sets c r) = held
 
 -- ---- What is held.
-outline-same : {m last : List ℕ} → Follows m last → is-content m ≡ true → outline (tree-of m) ≡ outline (tree-of last)
+pub outline-same : {m last : List ℕ} → Follows m last → is-content m ≡ true → outline (tree-of m) ≡ outline (tree-of last)
 outline-same none e = absurd (content-some e)
 outline-same (same c d o) e = o
 

@@ -1,27 +1,30 @@
 -- Why every state that is reached is valid, and what each jet then holds: a fresh printer is valid and holds nothing, and every call leads on
--- from such a state to such a state.
+-- from such a state to such a state. What is held is what is printed.
 use Prim.Native.Nat.{ℕ, _-_, _≤_}
 use mathlib.Core.Bool.{Bool, true, false}
-use mathlib.Core.List.{List, [], _∷_}
+use mathlib.Core.List.{List, [], _∷_, map, map-map}
 use mathlib.Core.Path.{_≡_, refl, sym, subst, ap, _∙_}
 use lib.ListN.{length}
 use Rattle.frame.specs.Ground.{Refusal}
 use Rattle.frame.proofs.Ground.{checked-all}
 use Rattle.frame.proofs.Heard.{sound}
 use Rattle.content.specs.Content.{is-content}
+use Rattle.content.specs.Grammar.{Tree, Line, block-outline, block-shape, outline, shape}
+use Rattle.content.specs.Tree.{tree-of}
 use Rattle.printer.specs.Jet.{has-jet, has-message, message}
 use Rattle.printer.specs.State.{Printer, empty-jet, jet-at, valid, valid-state, printer-of, bytes-of, fresh-printer}
 use Rattle.printer.specs.Call.{first-printer, fresh, fresh-tests}
-use Rattle.printer.specs.Demands.{Call, after, after-all, fresh-state, is-fresh, Brought, brought, newer, last-whole, jet-after, MessagesHeld, NothingHeld, ReachedValid}
+use Rattle.printer.specs.Demands.{Call, after, after-all, fresh-state, is-fresh, Brought, brought, newer, last-whole, jet-after, full, print-frame, Printed, MessagesHeld, NothingHeld, ReachedValid, PrintsAccepted, PrintedAsAccepted}
 use Rattle.printer.specs.declared.clock.Clock.{Clock}
 use Rattle.printer.proofs.Valid.{valid-printer, valid-at, jet-content, on-row, four-jets}
 use Rattle.printer.proofs.Rows.{replicate-at}
 use Rattle.printer.proofs.StateLaws.{fresh-valid}
-use Rattle.printer.proofs.PrintLaws.{none-empty}
+use Rattle.printer.proofs.PrintLaws.{none-empty, ready-at}
 use Rattle.printer.proofs.Written.{written}
 use Rattle.printer.proofs.Rooms.{Rooms, fresh-rooms}
 use Rattle.printer.proofs.Leading.{Leads, one-call, leads-valid, leads-model, leads-four, leads-rooms}
-use Rattle.printer.proofs.Following.{Follows, none, content-some, held-none, last-none, leads-follow, follows-held}
+use Rattle.printer.proofs.Following.{Follows, none, content-some, held-none, last-none, leads-follow, outline-same, follows-held}
+use Rattle.printer.proofs.Printing.{print-refused-exactly, strips-printed}
 
 -- ---- Every state is valid.
 -- What is true of every state that is reached from a fresh printer of a type.
@@ -131,3 +134,34 @@ nothing-held model clock calls jet e h =
       (λ t. held-none (x .follows) (none-empty (jet-after model clock calls jet) t)),
       (λ z. empty-none jet (x .reached) h (last-none (x .follows) z)),
     )
+
+-- ---- What each jet prints.
+-- Trees of the same outline have the same lines and blocks.
+line-shape : (l : Line) → map block-shape (map block-outline l) ≡ map block-shape l
+line-shape l = map-map block-shape block-outline l
+
+outline-shape : (t : Tree) → shape (outline t) ≡ shape t
+outline-shape [] = refl
+outline-shape (l ∷ t) = rw (line-shape l, outline-shape t)
+
+same-shape : (t u : Tree) → outline t ≡ outline u → shape t ≡ shape u
+same-shape t u e = sym (outline-shape t) ∙ ap shape e ∙ outline-shape u
+
+-- What has the lines and blocks of one content has those of another of the same outline.
+printed-as : {p : Printer} {jet : ℕ} {held last strip : List ℕ} → outline (tree-of held) ≡ outline (tree-of last)
+    → Printed p jet held strip → Printed p jet last strip
+printed-as {held = held} {last = last} e x =
+    record { ends = x .ends; same-shape = x .same-shape ∙ same-shape (tree-of held) (tree-of last) e; items = x .items }
+
+pub printed-as-accepted : PrintedAsAccepted
+printed-as-accepted model clock calls rest e =
+    let m = after-all (fresh-state model clock) calls in
+    let v = reached-valid model clock calls e in
+    record {
+      gets = print-refused-exactly m rest v;
+      prints = λ jet ready h.
+          let x = fresh-holds model clock calls jet e h in
+          let on : has-jet (printer-of m .model) jet ≡ true = rw (x .reached .same-model) h in
+          let held = messages-held model clock calls jet e h (ready-at (printer-of m) jet (four-jets m) ready on .0) in
+          record { held = held; printed = printed-as (outline-same (x .follows) (held .content)) (strips-printed m rest jet v ready on) };
+    }

@@ -303,18 +303,41 @@ abbrev pub PrintRefusedExactly : Type 0
 PrintRefusedExactly =
     (m rest : List ℕ) → valid-state m ≡ true → outcome m (full (print-frame rest)) .number ≡ pick (ready (printer-of m)) 0 11
 
-pub record Printed (p : Printer) (jet : ℕ) (strip : List ℕ) : Type 0 where
+-- The strip of a jet, with the lines and blocks of a content.
+pub record Printed (p : Printer) (jet : ℕ) (content strip : List ℕ) : Type 0 where
   pub ends : (front : List ℕ) × (strip ≡ front ++ (0x0D ∷ []))
-  pub same-shape : shape (tree-of strip) ≡ shape (tree-of (message (jet-at p jet)))
+  pub same-shape : shape (tree-of strip) ≡ shape (tree-of content)
   pub items : strip ≡ encode (resolved (values (entries (p .clock)) (jet-at p jet)) (tree-of (message (jet-at p jet))))
 
 abbrev pub StripsPrinted : Type 0
 StripsPrinted =
     (m rest : List ℕ) (jet : ℕ) → valid-state m ≡ true → ready (printer-of m) ≡ true → has-jet (printer-of m .model) jet ≡ true →
-    Printed (printer-of m) jet (getD (outcome m (full (print-frame rest)) .strips) (jet - 1) [])
+    Printed (printer-of m) jet (message (jet-at (printer-of m) jet)) (getD (outcome m (full (print-frame rest)) .strips) (jet - 1) [])
 
 -- Every state that is reached is valid, so that all of this holds of it.
 abbrev pub ReachedValid : Type 0
 ReachedValid =
     (model : ℕ) (clock : Clock) (calls : List Call) → is-fresh model clock ≡ true →
     valid-state (after-all (fresh-state model clock) calls) ≡ true
+
+-- The whole of it, from the calls to the strip: behind any calls a print frame is refused exactly when a jet of the printer has no message
+-- or no parameters; otherwise the strip of each jet "runs to its end mark with those same lines and blocks" of "the last whole message
+-- accepted for that jet", and is the message held, which is that one but for its characters, with "each item replaced by what it stands
+-- for at that moment".
+pub record AsAccepted (p : Printer) (jet : ℕ) (last strip : List ℕ) : Type 0 where
+  pub held : Held (message (jet-at p jet)) last
+  pub printed : Printed p jet last strip
+
+pub record PrintsAccepted (model : ℕ) (p : Printer) (o : Outcome) (last : ℕ → List ℕ) : Type 0 where
+  pub gets : o .number ≡ pick (ready p) 0 11
+  pub prints :
+      (jet : ℕ) → ready p ≡ true → has-jet model jet ≡ true → AsAccepted p jet (last jet) (getD (o .strips) (jet - 1) [])
+
+abbrev pub PrintedAsAccepted : Type 0
+PrintedAsAccepted =
+    (model : ℕ) (clock : Clock) (calls : List Call) (rest : List ℕ) → is-fresh model clock ≡ true →
+    PrintsAccepted
+    model
+    (printer-of (after-all (fresh-state model clock) calls))
+    (outcome (after-all (fresh-state model clock) calls) (full (print-frame rest)))
+    (λ (jet : ℕ). last-whole jet (fresh-state model clock) calls [])
