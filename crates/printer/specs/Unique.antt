@@ -1,13 +1,16 @@
 -- Every contract has one outcome: two that meet it for the same inputs have the same answer and the same bytes after.
 use Prim.Native.Nat.{ℕ}
+use mathlib.Core.Bool.{Bool}
 use mathlib.Core.List.{List}
 use mathlib.Core.Path.{_≡_}
+use Rattle.printer.specs.Clock.{is-real, tick}
 use Rattle.printer.specs.Order.{Order, Obeys}
 use Rattle.printer.specs.Receive.{Receives}
 use Rattle.printer.specs.Call.{Freshens, set-clock, tick-clock}
 use Rattle.printer.specs.declared.clock.Clock.{Clock}
 use Rattle.printer.specs.declared.answer.Answered.{Answered}
 
+-- `fresh`.
 abbrev pub FreshensUnique : Type 0
 FreshensUnique =
     (m : List ℕ) (model : ℕ) (clock : Clock) (r r′ : ℕ) (m′ m″ : List ℕ) →
@@ -15,12 +18,30 @@ FreshensUnique =
     Freshens m model clock r′ m″ →
     (r ≡ r′) × (m′ ≡ m″)
 
--- `set_clock` and `tick` are the orders `set-clock` and `tick-clock`.
+-- `set_clock` and `tick` are the orders `set-clock` and `tick-clock`, and of every order this is true.
 abbrev pub ObeysUnique : Type 0
 ObeysUnique =
     (o : Order) (m : List ℕ) (r r′ : ℕ) (m′ m″ : List ℕ) → Obeys o m r m′ → Obeys o m r′ m″ → (r ≡ r′) × (m′ ≡ m″)
 
--- Number, count, answer's length and strips' lengths are one answer; then the bytes of the state and of the two buffers.
+abbrev pub SetClockUnique : Type 0
+SetClockUnique =
+    (m : List ℕ) (clock : Clock) (r r′ : ℕ) (m′ m″ : List ℕ) →
+    Obeys (set-clock m clock) m r m′ →
+    Obeys (set-clock m clock) m r′ m″ →
+    (r ≡ r′) × (m′ ≡ m″)
+
+abbrev pub TickUnique : Type 0
+TickUnique =
+    (m : List ℕ) (r r′ : ℕ) (m′ m″ : List ℕ) → Obeys (tick-clock m) m r m′ → Obeys (tick-clock m) m r′ m″ → (r ≡ r′) × (m′ ≡ m″)
+
+-- `Clock::is_real` and `Clock::tick` hand back what the rule says, and touch no bytes.
+abbrev pub ClockIsRealUnique : Type 0
+ClockIsRealUnique = (c : Clock) (r r′ : Bool) → r ≡ is-real c → r′ ≡ is-real c → r ≡ r′
+
+abbrev pub ClockTickUnique : Type 0
+ClockTickUnique = (c r r′ : Clock) → r ≡ tick c → r′ ≡ tick c → r ≡ r′
+
+-- `receive`: number, count, answer's length and strips' lengths are one answer; then the bytes of the state and of the two buffers.
 abbrev pub ReceivesUnique : Type 0
 ReceivesUnique =
     (m s answer strips : List ℕ) (r r′ : Answered) (m′ m″ answer′ answer″ strips′ strips″ : List ℕ) →
