@@ -4,22 +4,29 @@ use mathlib.Core.Bool.{Bool, true}
 use mathlib.Core.List.{List, [], _∷_}
 use mathlib.Core.Path.{_≡_}
 use lib.ListN.{length}
-use Rattle.frame.specs.Ground.{unless, both, every, each, test, over}
+use Rattle.frame.specs.Ground.{unless, both, each, test, over}
 use Rattle.content.specs.Content.{longest-message}
 use Rattle.content.specs.Strip.{strip}
 use Rattle.content.specs.declared.strip.Values.{Values}
 use Rattle.printer.specs.Clock.{entries}
 use Rattle.printer.specs.Number.{digits}
-use Rattle.printer.specs.Jet.{Jet, has-jet, has-message, message, has-parameters, counted-jet}
-use Rattle.printer.specs.State.{Printer}
+use Rattle.printer.specs.Jet.{Jet, has-jet, has-message, message, has-parameters, valid-jet, counted-jet}
+use Rattle.printer.specs.State.{Printer, every-jet}
 use Rattle.printer.specs.Order.{Order}
+use Rattle.printer.specs.declared.jet.Question.{Question}
+use Rattle.printer.specs.declared.jet.Question.the-variants.{Valid, Ready}
 
 -- 01, Numbers: 94h gets 11 with "either missing on any jet".
 abbrev pub ready-jet : Bool → Jet → Bool
 ready-jet present j = unless present true (both (has-message j) (has-parameters j))
 
 unfoldable pub ready : Printer → Bool
-ready p = every (λ (n : ℕ) (j : Jet). ready-jet (has-jet (p .model) n) j) 1 (p .jets)
+ready p = every-jet ready-jet p
+
+-- The two questions that are asked of every jet of a state.
+abbrev pub asked : Question → Bool → Jet → Bool
+asked Valid present j = valid-jet present j
+asked Ready present j = ready-jet present j
 
 -- What the items of a jet's message stand for, with the entries of the moment: the counter is the "value before this print".
 abbrev pub values : List ℕ → Jet → Values

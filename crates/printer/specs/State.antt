@@ -37,10 +37,14 @@ with-jet p n j = record { model = p .model; clock = p .clock; jets = set (p .jet
 abbrev pub with-clock : Printer → Clock → Printer
 with-clock p c = record { model = p .model; clock = c; jets = p .jets }
 
+-- Whether a test holds of every jet; it is told whether the printer has that jet.
+abbrev pub every-jet : (Bool → Jet → Bool) → Printer → Bool
+every-jet f p = every (λ (n : ℕ) (j : Jet). f (has-jet (p .model) n) j) 1 (p .jets)
+
 -- 01, Numbers: "A state is valid if its type is 1 to 4, its clock a real moment, jets it lacks are empty, contents and parameters are
 -- good where present, and the counter lies from initial to final with batch below lot."
 abbrev pub valid-jets : Printer → Bool
-valid-jets p = every (λ (n : ℕ) (j : Jet). valid-jet (has-jet (p .model) n) j) 1 (p .jets)
+valid-jets p = every-jet valid-jet p
 
 unfoldable pub valid : Printer → Bool
 valid p = both (within 1 4 (p .model)) (both (is-real (p .clock)) (valid-jets p))

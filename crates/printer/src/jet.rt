@@ -20,13 +20,19 @@ ghost use mathlib.Core.Path.{_≡_};
 ghost use Rattle.printer.specs.Change.{EditsJet, positions, updated-jet, with-both};
 ghost use Rattle.printer.specs.Counter.{valid-counter};
 ghost use Rattle.printer.specs.Jet.{counted-jet, good-parameters, has-jet, has-message, has-parameters, head-jet, jet-bytes, jet-of, jet-size, message, parameters, valid-jet, valid-message, with-message, with-parameters};
-ghost use Rattle.printer.specs.Print.{ready-jet};
+ghost use Rattle.printer.specs.Print.{asked, ready-jet};
 ghost use Rattle.content.specs.Content.{longest-message};
 
 // "A jet number is never a head number": two kinds of number, and `head_jet` the only way across.
 pub struct JetNumber(u8);
 
 pub struct HeadNumber(u8);
+
+// What is asked of every jet of a state: whether a valid state may have it so, and whether it can print.
+pub(crate) enum Question {
+    Valid,
+    Ready,
+}
 
 // How many of the parameter bytes are general.
 const GENERAL: usize = 11;
@@ -157,7 +163,7 @@ fn valid_message(jet: &[u8]) -> bool
 }
 
 // Whether a jet holds what a valid state may hold; a jet that the printer lacks holds nothing.
-pub(crate) fn valid_jet(present: bool, jet: &[u8]) -> bool
+fn valid_jet(present: bool, jet: &[u8]) -> bool
     requires { ⌜ length (now jet) ≡ jet-size ⌝ }
     ensures { λ r. ⌜ r ≡ valid-jet present (jet-of (now (jet .entry))) ⌝ }
 {
@@ -233,7 +239,7 @@ pub(crate) fn update_jet(jet: &mut [u8], text: &[u8], from: usize)
 }
 
 // Whether a jet can print: a message and parameters, on each jet that the printer has.
-pub(crate) fn ready_jet(present: bool, jet: &[u8]) -> bool
+fn ready_jet(present: bool, jet: &[u8]) -> bool
     requires { ⌜ length (now jet) ≡ jet-size ⌝ }
     ensures { λ r. ⌜ r ≡ ready-jet present (jet-of (now (jet .entry))) ⌝ }
 {
@@ -244,6 +250,17 @@ pub(crate) fn ready_jet(present: bool, jet: &[u8]) -> bool
         return false;
     }
     has_parameters(jet)
+}
+
+// The answer of one jet to a question.
+pub(crate) fn asked(question: Question, present: bool, jet: &[u8]) -> bool
+    requires { ⌜ length (now jet) ≡ jet-size ⌝ }
+    ensures { λ r. ⌜ r ≡ asked question present (jet-of (now (jet .entry))) ⌝ }
+{
+    match question {
+        Question::Valid => valid_jet(present, jet),
+        Question::Ready => ready_jet(present, jet),
+    }
 }
 
 // A jet counts a print, "counter shown or not".

@@ -3,17 +3,17 @@ use crate::clock::Clock;
 use crate::clock::Date;
 use crate::jet::JET;
 use crate::jet::JetNumber;
+use crate::jet::Question;
+use crate::jet::asked;
 use crate::jet::has_jet;
 use crate::jet::jet_index;
 use crate::jet::jet_number;
-use crate::jet::ready_jet;
-use crate::jet::valid_jet;
 use content::byte::within;
 ghost use Prim.Native.Nat.{_+_, _≤_};
 ghost use lib.ListN.{length, set};
 ghost use mathlib.Core.Path.{_≡_};
-ghost use Rattle.printer.specs.Print.{ready};
-ghost use Rattle.printer.specs.State.{bytes-of, fresh-printer, jet-place, printer-of, state-size, valid-jets, valid-state, with-clock};
+ghost use Rattle.printer.specs.Print.{asked, ready};
+ghost use Rattle.printer.specs.State.{bytes-of, every-jet, fresh-printer, jet-place, printer-of, state-size, valid-state, with-clock};
 ghost use Rattle.printer.specs.Jet.{jet-size};
 
 // How many bytes a state has: type (1), seconds, minutes, hours, day, month, year (1 each), and four jets.
@@ -75,17 +75,17 @@ pub(crate) fn put_clock(state: &mut [u8], clock: Clock)
     put_date(state, clock.date);
 }
 
-// Whether all jets of a state are as a valid state may have them.
-fn valid_jets(state: &[u8]) -> bool
+// Whether every jet of a state answers a question with yes.
+fn every_jet(state: &[u8], question: Question) -> bool
     requires { ⌜ length (now state) ≡ state-size ⌝ }
-    ensures { λ r. ⌜ r ≡ valid-jets (printer-of (now (state .entry))) ⌝ }
+    ensures { λ r. ⌜ r ≡ every-jet (asked question) (printer-of (now (state .entry))) ⌝ }
 {
     let model = state[0];
     let mut n = 1;
     let mut at = JETS;
     while n <= 4 {
         let end = at + JET;
-        if !valid_jet(has_jet(model, jet_number(n)), &state[at..end]) {
+        if !asked(question, has_jet(model, jet_number(n)), &state[at..end]) {
             return false;
         }
         n += 1;
@@ -108,7 +108,7 @@ pub(crate) fn valid_state(state: &[u8]) -> bool
     if !now.is_real() {
         return false;
     }
-    valid_jets(state)
+    every_jet(state, Question::Valid)
 }
 
 // Whether each jet of the printer has a message and parameters.
@@ -116,18 +116,7 @@ pub(crate) fn ready(state: &[u8]) -> bool
     requires { ⌜ length (now state) ≡ state-size ⌝ }
     ensures { λ r. ⌜ r ≡ ready (printer-of (now (state .entry))) ⌝ }
 {
-    let model = state[0];
-    let mut n = 1;
-    let mut at = JETS;
-    while n <= 4 {
-        let end = at + JET;
-        if !ready_jet(has_jet(model, jet_number(n)), &state[at..end]) {
-            return false;
-        }
-        n += 1;
-        at = end;
-    }
-    true
+    every_jet(state, Question::Ready)
 }
 
 // A printer of a type at a moment, with empty jets.

@@ -1,68 +1,12 @@
--- `printer::state::ready` meets its contract. The invariant is a walk over the row of jets: those before the n-th have passed, and what is left gives the answer.
-use Prim.Native.Nat.{ℕ, _+_, _-_}
-use mathlib.Core.Path.{_≡_, sym, _∙_}
-use native.Mathlib.Omega.{arith}
+-- `printer::state::ready` meets its contract: one of the two questions, asked of every jet.
 use borrow.Author.Needs.{needs}
-use borrow.Author.Tests.{not-true, not-false}
-use borrow.Rule.Slice.PartMut.{midOf}
-use Rattle.printer.specs.Jet.{Jet, has-jet, jet-size, jet-of}
-use Rattle.printer.specs.Print.{ready, ready-jet}
-use Rattle.printer.specs.State.{printer-of}
-use Rattle.printer.proofs.Memory.{Walk, walk-starts, walk-fails, walk-goes, walk-ends, jet-tested, part-full}
+use Rattle.printer.specs.Print.{ready}
 use Rattle.printer.proofs.state.ready.Statement.{statement}
 use Rattle.printer.proofs.state.ready.Tie as tie
 
-abbrev Inv-loop : tie.InvT-loop
-Inv-loop state model n₀ at₀ n at = Walk (λ (k : ℕ) (j : Jet). ready-jet (has-jet (printer-of state .model) k) j) state n at
-
-abbrev μ-loop : tie.MeasureT-loop
-μ-loop state model n₀ at₀ n at = 5 - n
-
-loop-holds : tie.Need-loop-holds Inv-loop μ-loop
-loop-holds c = walk-starts _ _
-
-ready-jet-requires : tie.Need-ready-jet-requires Inv-loop μ-loop
-ready-jet-requires c κs = part-full (c .before .before .before .before .before .before .before .args .state .now) (c .before .before .before .before .loop .at) (c .before .before .before .before .before .before .before .pre) (omega arith)
-
--- The test of the n-th jet gave what the rule's gives.
-tested : (c : tie.After-ready-jet Inv-loop μ-loop)
-    → let m = c .before .before .before .before .before .before .before .before .args .state .now in
-    let w = c .before .before .before .before .before .loop in
-    ready-jet (has-jet (printer-of m .model) (w .n)) (jet-of (midOf (w .at) (w .at + jet-size - w .at) m)) ≡ c .ready-jet .result
-unfolding printer-of
-tested c =
-    let m = c .before .before .before .before .before .before .before .before .args .state .now in
-    let w = c .before .before .before .before .before .loop in
-    jet-tested ready-jet (printer-of m .model) m (w .n) (w .at) (c .before .before .before .jet-number .ensures) (c .before .before .has-jet .ensures) (c .ready-jet .ensures)
-
-returns : tie.Need-returns Inv-loop μ-loop
+returns : tie.Need-returns
 unfolding ready
-returns c = sym (walk-fails _ _ (c .before .before .before .before .before .before .loop .inv) (omega arith) (tested (c .before) ∙ not-true _ (c .if1 .taken)))
-
-loop-again : tie.Need-loop-again Inv-loop μ-loop
-loop-again c = walk-goes _ _ (c .before .before .before .before .before .before .loop .inv) (omega arith) (tested (c .before) ∙ not-false _ (c .if1 .left))
-
-returns-2 : tie.Need-returns-2 Inv-loop μ-loop
-unfolding ready
-returns-2 c = sym (walk-ends _ _ (c .before .loop .inv) (omega arith))
+returns c = c .every-jet .ensures
 
 pub ready-spec : {M : Type 1} → statement M
-ready-spec =
-    tie.close
-    (tie.spec
-    Inv-loop
-    μ-loop
-    (λ c. search needs)
-    loop-holds
-    (λ c. search needs)
-    (λ c κs. search needs)
-    (λ c κs. search needs)
-    (λ c. search needs)
-    (λ c. search needs)
-    (λ c. search needs)
-    ready-jet-requires
-    returns
-    (λ c. search needs)
-    (λ c. search needs)
-    loop-again
-    returns-2)
+ready-spec = tie.close (tie.spec (λ c κs. search needs) returns)

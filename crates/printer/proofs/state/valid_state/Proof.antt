@@ -41,7 +41,7 @@ returns-4 : tie.Need-returns-4
 unfolding printer-of
 returns-4 c =
     sym (tests-left (c .before .before .before .before .before .before .before .before .before .args .state .now) (c .before .before .before .before .before .before .before .if1 .left) ∙ passed _ (sym (c .before .before .before .before .before .within .ensures) ∙ not-false _ (c .before .before .before .before .if2 .left))
-    ∙ passed _ (ap is-real (sym (c .before .before .before .clock .ensures)) ∙ sym (c .before .before .is-real .ensures) ∙ not-false _ (c .before .if3 .left)) ∙ sym (c .valid-jets .ensures))
+    ∙ passed _ (ap is-real (sym (c .before .before .before .clock .ensures)) ∙ sym (c .before .before .is-real .ensures) ∙ not-false _ (c .before .if3 .left)) ∙ sym (c .every-jet .ensures))
 
 pub valid-state-spec : {M : Type 1} → statement M
 valid-state-spec =

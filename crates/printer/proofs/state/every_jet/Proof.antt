@@ -1,38 +1,39 @@
--- `printer::state::valid_jets` meets its contract. The invariant is a walk over the row of jets: those before the n-th have passed, and what is left gives the answer.
+-- `printer::state::every_jet` meets its contract. The invariant is a walk over the row of jets: those before the n-th have passed, and what is left gives the answer.
 use Prim.Native.Nat.{ℕ, _+_, _-_}
 use mathlib.Core.Path.{_≡_, sym, _∙_}
 use native.Mathlib.Omega.{arith}
 use borrow.Author.Needs.{needs}
 use borrow.Author.Tests.{not-true, not-false}
 use borrow.Rule.Slice.PartMut.{midOf}
-use Rattle.printer.specs.Jet.{Jet, has-jet, jet-size, jet-of, valid-jet}
+use Rattle.printer.specs.Jet.{Jet, has-jet, jet-size, jet-of}
+use Rattle.printer.specs.Print.{asked}
 use Rattle.printer.specs.State.{printer-of}
 use Rattle.printer.proofs.Memory.{Walk, walk-starts, walk-fails, walk-goes, walk-ends, jet-tested, part-full}
-use Rattle.printer.proofs.state.valid_jets.Statement.{statement}
-use Rattle.printer.proofs.state.valid_jets.Tie as tie
+use Rattle.printer.proofs.state.every_jet.Statement.{statement}
+use Rattle.printer.proofs.state.every_jet.Tie as tie
 
 abbrev Inv-loop : tie.InvT-loop
-Inv-loop state model n₀ at₀ n at = Walk (λ (k : ℕ) (j : Jet). valid-jet (has-jet (printer-of state .model) k) j) state n at
+Inv-loop state question model n₀ at₀ n at = Walk (λ (k : ℕ) (j : Jet). asked question (has-jet (printer-of state .model) k) j) state n at
 
 abbrev μ-loop : tie.MeasureT-loop
-μ-loop state model n₀ at₀ n at = 5 - n
+μ-loop state question model n₀ at₀ n at = 5 - n
 
 loop-holds : tie.Need-loop-holds Inv-loop μ-loop
 loop-holds c = walk-starts _ _
 
-valid-jet-requires : tie.Need-valid-jet-requires Inv-loop μ-loop
-valid-jet-requires c κs = part-full (c .before .before .before .before .before .before .before .args .state .now) (c .before .before .before .before .loop .at) (c .before .before .before .before .before .before .before .pre) (omega arith)
+asked-requires : tie.Need-asked-requires Inv-loop μ-loop
+asked-requires c κs = part-full (c .before .before .before .before .before .before .before .args .state .now) (c .before .before .before .before .loop .at) (c .before .before .before .before .before .before .before .pre) (omega arith)
 
 -- The test of the n-th jet gave what the rule's gives.
-tested : (c : tie.After-valid-jet Inv-loop μ-loop)
+tested : (c : tie.After-asked Inv-loop μ-loop)
     → let m = c .before .before .before .before .before .before .before .before .args .state .now in
     let w = c .before .before .before .before .before .loop in
-    valid-jet (has-jet (printer-of m .model) (w .n)) (jet-of (midOf (w .at) (w .at + jet-size - w .at) m)) ≡ c .valid-jet .result
+    asked (c .before .before .before .before .before .before .before .before .args .question) (has-jet (printer-of m .model) (w .n)) (jet-of (midOf (w .at) (w .at + jet-size - w .at) m)) ≡ c .asked .result
 unfolding printer-of
 tested c =
     let m = c .before .before .before .before .before .before .before .before .args .state .now in
     let w = c .before .before .before .before .before .loop in
-    jet-tested valid-jet (printer-of m .model) m (w .n) (w .at) (c .before .before .before .jet-number .ensures) (c .before .before .has-jet .ensures) (c .valid-jet .ensures)
+    jet-tested (asked (c .before .before .before .before .before .before .before .before .args .question)) (printer-of m .model) m (w .n) (w .at) (c .before .before .before .jet-number .ensures) (c .before .before .has-jet .ensures) (c .asked .ensures)
 
 returns : tie.Need-returns Inv-loop μ-loop
 returns c = sym (walk-fails _ _ (c .before .before .before .before .before .before .loop .inv) (omega arith) (tested (c .before) ∙ not-true _ (c .if1 .taken)))
@@ -43,8 +44,8 @@ loop-again c = walk-goes _ _ (c .before .before .before .before .before .before 
 returns-2 : tie.Need-returns-2 Inv-loop μ-loop
 returns-2 c = sym (walk-ends _ _ (c .before .loop .inv) (omega arith))
 
-pub valid-jets-spec : {M : Type 1} → statement M
-valid-jets-spec =
+pub every-jet-spec : {M : Type 1} → statement M
+every-jet-spec =
     tie.close
     (tie.spec
     Inv-loop
@@ -57,7 +58,7 @@ valid-jets-spec =
     (λ c. search needs)
     (λ c. search needs)
     (λ c. search needs)
-    valid-jet-requires
+    asked-requires
     returns
     (λ c. search needs)
     (λ c. search needs)
