@@ -83,25 +83,37 @@ valid-counter c =
     (both (within (initial (c .settings)) (final (c .settings)) (c .value))
     (ltb (c .batch) (lot (c .settings))))))
 
--- The 34 bytes of a counter: settings (26), whether it is set, value (4), batch (3).
+-- The 34 bytes of a counter: settings (26), whether it is set (1), value (4), batch (3); and where each of them begins.
 abbrev pub settings-size : ℕ
 settings-size = 26
 
+abbrev pub value-size : ℕ
+value-size = 4
+
+abbrev pub batch-size : ℕ
+batch-size = 3
+
+abbrev pub value-place : ℕ
+value-place = settings-size + 1
+
+abbrev pub batch-place : ℕ
+batch-place = value-place + value-size
+
 abbrev pub counter-size : ℕ
-counter-size = 34
+counter-size = batch-place + batch-size
 
 unfoldable pub counter-of : List ℕ → Counter
 counter-of b =
     record {
       settings = take settings-size b;
-      set = getD b 26 0;
-      value = number-of (take 4 (drop 27 b));
-      batch = number-of (take 3 (drop 31 b));
+      set = getD b settings-size 0;
+      value = number-of (take value-size (drop value-place b));
+      batch = number-of (take batch-size (drop batch-place b));
     }
 
 unfoldable pub counter-bytes : Counter → List ℕ
-counter-bytes c = c .settings ++ (c .set ∷ (in-bytes 4 (c .value) ++ in-bytes 3 (c .batch)))
+counter-bytes c = c .settings ++ (c .set ∷ (in-bytes value-size (c .value) ++ in-bytes batch-size (c .batch)))
 
 -- 01, On the wire: 39h answers "9 digits, 3 batch bytes".
 abbrev pub counter-text : Counter → List ℕ
-counter-text c = digits (c .value) ++ in-bytes 3 (c .batch)
+counter-text c = digits (c .value) ++ in-bytes batch-size (c .batch)

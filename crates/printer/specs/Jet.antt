@@ -22,6 +22,10 @@ has-jet model n =
 abbrev pub head-jet : ℕ → ℕ → ℕ
 head-jet head k = 2 * (head - 1) + 1 + k
 
+-- How many of the parameter bytes are general.
+abbrev pub general-size : ℕ
+general-size = 11
+
 -- A jet's message is the first `length` bytes of its content. Its parameters are 11 general bytes, "kept as they come", and the
 -- settings of its counter.
 pub record Jet : Type 0 where
@@ -45,7 +49,7 @@ abbrev pub parameters : Jet → List ℕ
 parameters j = j .general ++ j .counter .settings
 
 unfoldable pub good-parameters : List ℕ → Bool
-good-parameters q = good-settings (drop 11 q)
+good-parameters q = good-settings (drop general-size q)
 
 -- 01, Numbers: in a valid state "contents and parameters are good where present".
 unfoldable pub valid-message : Jet → Bool
@@ -63,24 +67,33 @@ with-message j c =
 
 abbrev pub with-parameters : Jet → List ℕ → Jet
 with-parameters j q =
-    record { length = j .length; content = j .content; general = take 11 q; counter = set-to (drop 11 q) }
+    record { length = j .length; content = j .content; general = take general-size q; counter = set-to (drop general-size q) }
 
 abbrev pub counted-jet : Jet → Jet
 counted-jet j =
     record { length = j .length; content = j .content; general = j .general; counter = counted (j .counter) }
 
--- The 559 bytes of a jet: length (2), content (512), general (11), counter (34).
+-- The 559 bytes of a jet: length (2), content (512), general (11), counter (34); and where each of them begins.
+abbrev pub length-size : ℕ
+length-size = 2
+
+abbrev pub general-place : ℕ
+general-place = length-size + longest-message
+
+abbrev pub counter-place : ℕ
+counter-place = general-place + general-size
+
 abbrev pub jet-size : ℕ
-jet-size = 559
+jet-size = counter-place + counter-size
 
 unfoldable pub jet-of : List ℕ → Jet
 jet-of b =
     record {
-      length = number-of (take 2 b);
-      content = take longest-message (drop 2 b);
-      general = take 11 (drop 514 b);
-      counter = counter-of (take counter-size (drop 525 b));
+      length = number-of (take length-size b);
+      content = take longest-message (drop length-size b);
+      general = take general-size (drop general-place b);
+      counter = counter-of (take counter-size (drop counter-place b));
     }
 
 unfoldable pub jet-bytes : Jet → List ℕ
-jet-bytes j = in-bytes 2 (j .length) ++ (j .content ++ (j .general ++ counter-bytes (j .counter)))
+jet-bytes j = in-bytes length-size (j .length) ++ (j .content ++ (j .general ++ counter-bytes (j .counter)))

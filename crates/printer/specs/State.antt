@@ -8,7 +8,7 @@ use Rattle.frame.specs.Ground.{both, within, every, joined}
 use Rattle.content.specs.Content.{longest-message}
 use Rattle.printer.specs.Clock.{is-real, date, moment}
 use Rattle.printer.specs.Counter.{settings-size}
-use Rattle.printer.specs.Jet.{Jet, has-jet, valid-jet, jet-size, jet-of, jet-bytes}
+use Rattle.printer.specs.Jet.{Jet, has-jet, valid-jet, general-size, jet-size, jet-of, jet-bytes}
 use Rattle.printer.specs.declared.clock.Clock.{Clock}
 
 -- A printer's type is its model here; its jets are 1 to 4 in order, also those that it lacks.
@@ -23,7 +23,7 @@ empty-jet =
     record {
       length = 0;
       content = replicate longest-message 0;
-      general = replicate 11 0;
+      general = replicate general-size 0;
       counter = record { settings = replicate settings-size 0; set = 0; value = 0; batch = 0 };
     }
 

@@ -10,11 +10,18 @@ ghost use lib.ListN.{drop, length, take};
 ghost use mathlib.Core.List.{_++_};
 ghost use mathlib.Core.Bool.{true};
 ghost use mathlib.Core.Path.{_≡_};
-ghost use Rattle.printer.specs.Counter.{all-digits-in, counted, counter-bytes, counter-of, counter-size, counter-text, final, good-settings, grown, initial, is-set, lot, next-batch, next-value, set-to, settings-size, step, valid-counter};
+ghost use Rattle.printer.specs.Counter.{all-digits-in, batch-size, counted, counter-bytes, counter-of, counter-size, counter-text, final, good-settings, grown, initial, is-set, lot, next-batch, next-value, set-to, settings-size, step, valid-counter, value-place, value-size};
 ghost use Rattle.frame.specs.Ground.{both, within};
 ghost use Rattle.printer.specs.Number.{all-digits, digits, in-bytes, value};
 
 pub(crate) const SETTINGS: usize = 26;
+
+// Where the value and the batch begin, behind the byte that says whether the counter is set, and where it ends.
+const VALUE_AT: usize = SETTINGS + 1;
+
+const BATCH_AT: usize = VALUE_AT + 4;
+
+pub(crate) const COUNTER: usize = BATCH_AT + 3;
 
 // What count digits from a place on come to.
 fn value_at(q: &[u8], from: usize, count: usize) -> u32
@@ -128,21 +135,21 @@ pub(crate) fn valid_counter(c: &[u8]) -> bool
     if !good_settings(q) {
         return false;
     }
-    counts(q, four_bytes(c, 27), three_bytes(c, 31))
+    counts(q, four_bytes(c, VALUE_AT), three_bytes(c, BATCH_AT))
 }
 
 // Writes a value and a batch behind the settings.
 fn put_count(c: &mut [u8], value: u32, batch: u32)
     requires { ⌜ length (now c) ≡ counter-size ⌝ }
-    ensures { λ _. ⌜ now (c .exit) ≡ take 27 (now (c .entry)) ++ (in-bytes 4 value ++ in-bytes 3 batch) ⌝ }
+    ensures { λ _. ⌜ now (c .exit) ≡ take value-place (now (c .entry)) ++ (in-bytes value-size value ++ in-bytes batch-size batch) ⌝ }
 {
-    c[27] = (value / 256 / 256 / 256 % 256) as u8;
-    c[28] = (value / 256 / 256 % 256) as u8;
-    c[29] = (value / 256 % 256) as u8;
-    c[30] = (value % 256) as u8;
-    c[31] = (batch / 256 / 256 % 256) as u8;
-    c[32] = (batch / 256 % 256) as u8;
-    c[33] = (batch % 256) as u8;
+    c[VALUE_AT] = (value / 256 / 256 / 256 % 256) as u8;
+    c[VALUE_AT + 1] = (value / 256 / 256 % 256) as u8;
+    c[VALUE_AT + 2] = (value / 256 % 256) as u8;
+    c[VALUE_AT + 3] = (value % 256) as u8;
+    c[BATCH_AT] = (batch / 256 / 256 % 256) as u8;
+    c[BATCH_AT + 1] = (batch / 256 % 256) as u8;
+    c[BATCH_AT + 2] = (batch % 256) as u8;
 }
 
 // A counter with other settings: it counts from the start.
@@ -199,8 +206,8 @@ pub(crate) fn count(c: &mut [u8])
     if !is_set(c) {
         return;
     }
-    let value = four_bytes(c, 27);
-    let batch = three_bytes(c, 31);
+    let value = four_bytes(c, VALUE_AT);
+    let batch = three_bytes(c, BATCH_AT);
     let q = &c[..SETTINGS];
     let next = next_value(q, value, batch);
     let more = next_batch(q, batch);
@@ -212,7 +219,7 @@ pub(crate) fn counter_text(c: &[u8]) -> [u8; 12]
     requires { ⌜ length (now c) ≡ counter-size ⌝ }
     ensures { λ r. ⌜ r ≡ counter-text (counter-of (now (c .entry))) ⌝ }
 {
-    let d = digits(four_bytes(c, 27));
+    let d = digits(four_bytes(c, VALUE_AT));
     [
         d[0],
         d[1],
@@ -223,9 +230,9 @@ pub(crate) fn counter_text(c: &[u8]) -> [u8; 12]
         d[6],
         d[7],
         d[8],
-        c[31],
-        c[32],
-        c[33],
+        c[BATCH_AT],
+        c[BATCH_AT + 1],
+        c[BATCH_AT + 2],
     ]
 }
 
@@ -234,5 +241,5 @@ pub(crate) fn value(c: &[u8]) -> u32
     requires { ⌜ length (now c) ≡ counter-size ⌝ }
     ensures { λ r. ⌜ r ≡ counter-of (now (c .entry)) .value ⌝ }
 {
-    four_bytes(c, 27)
+    four_bytes(c, VALUE_AT)
 }

@@ -1,4 +1,6 @@
 // A jet, over its 559 bytes: length (2), content (512), general (11), counter (34).
+use crate::counter::COUNTER;
+use crate::counter::SETTINGS;
 use crate::counter::count;
 use crate::counter::good_settings;
 use crate::counter::is_set;
@@ -40,13 +42,13 @@ const GENERAL: usize = 11;
 // Where the parts of a jet begin, the length at 0, and where it ends; the settings of its counter end where it says whether it is set.
 const CONTENT_AT: usize = 2;
 
-const GENERAL_AT: usize = 514;
+const GENERAL_AT: usize = CONTENT_AT + MESSAGE;
 
-pub(crate) const COUNTER_AT: usize = 525;
+pub(crate) const COUNTER_AT: usize = GENERAL_AT + GENERAL;
 
-const SET_AT: usize = 551;
+const SET_AT: usize = COUNTER_AT + SETTINGS;
 
-pub(crate) const JET: usize = 559;
+pub(crate) const JET: usize = COUNTER_AT + COUNTER;
 
 // Which jets a printer of a type has.
 pub(crate) fn has_jet(model: u8, n: JetNumber) -> bool
