@@ -12,7 +12,7 @@ use lib.ListN.{length, getD, set, take, drop, length-append, length-take, length
 use lib.Seq.{take-nil, getD-take, getD-drop, drop-drop, take-at, drop-at, getD-at, take-all}
 use Rattle.frame.specs.Ground.{pick, every, each, joined}
 use Rattle.frame.proofs.Ground.{pick-case, both-true, within-true, length-over, length-each}
-use Rattle.printer.specs.Clock.{is-real, is-date, is-leap, days-in}
+use Rattle.printer.specs.Clock.{is-real, is-leap, days-in}
 use Rattle.printer.specs.Number.{is-digit, all-digits, value-from, number-from, number-of, in-bytes}
 use Rattle.printer.specs.Counter.{Counter, control, all-digits-in, initial, final, step, lot, good-settings, grown, next-value, next-batch, is-set, moved, counted, valid-counter, counter-size, counter-of, counter-bytes}
 use Rattle.printer.specs.Jet.{Jet, has-jet, good-parameters, valid-jet, counted-jet, jet-size, jet-of, jet-bytes}
@@ -23,6 +23,7 @@ use Rattle.printer.proofs.Valid.{valid-size, valid-printer, valid-row, 
 use Rattle.printer.proofs.Numbers.{Bytes, bytes-drop}
 use Rattle.printer.proofs.Memory.{part-bytes, next-place}
 use Rattle.printer.proofs.Memory as memory
+use Rattle.printer.proofs.Moments.{real-tells}
 
 fitting : (m : List ℕ) → AllBytes m → Bytes m
 fitting m f i = record { fits = f i }
@@ -203,34 +204,10 @@ month-short month year =
     thirty : (k : ℕ) {n : ℕ} → n ≤ 31 → pick (eqb month k) 30 n ≤ 31
     thirty k h = pick-case P (eqb month k) _ _ (λ _. omega arith) (λ _. h)
 
-record Real (c : Clock) : Type 0 where
-  second : c .second ≤ 59
-  minute : c .minute ≤ 59
-  hour : c .hour ≤ 23
-  day : c .date .day ≤ days-in (c .date .month) (c .date .year)
-  month : c .date .month ≤ 12
-  year : c .date .year ≤ 99
-
-real-tells : (c : Clock) → is-real c ≡ true → Real c
-unfolding is-real is-date
-real-tells c v =
-    let a = both-true _ _ v in
-    let b = both-true _ _ (a .1) in
-    let d = both-true _ _ (b .1) in
-    let e = both-true _ _ (d .1) in
-    let g = both-true _ _ (e .1) in
-    record {
-      second = leb-true (c .second) 59 (a .0);
-      minute = leb-true (c .minute) 59 (b .0);
-      hour = leb-true (c .hour) 23 (d .0);
-      day = within-true 1 (days-in (c .date .month) (c .date .year)) (c .date .day) (g .0) .1;
-      month = within-true 1 12 (c .date .month) (e .0) .1;
-      year = leb-true (c .date .year) 99 (g .1);
-    }
-
 real-sized : (c : Clock) → is-real c ≡ true → SizedMoment c
 real-sized c v =
     let r = real-tells c v in
+    let d = r .date in
     let short = month-short (c .date .month) (c .date .year) in
     record {
       second = omega arith;
