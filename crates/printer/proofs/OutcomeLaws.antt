@@ -1,13 +1,14 @@
 -- What document 01 promises of every outcome, read off the three kinds that there are.
 use Prim.Native.Nat.{ℕ, zero, suc, _+_, _-_, _*_, _≤_}
 use mathlib.Core.Bool.{Bool, true, false}
-use mathlib.Core.List.{List, [], _∷_, _++_}
+use mathlib.Core.List.{List, [], _∷_, _++_, append-assoc, map}
 use mathlib.Core.Path.{_≡_, refl, sym, _∙_, ap}
 use native.Mathlib.Omega.{arith}
 use borrow.Author.Tests.{ne-eqb}
 use lib.Dec.{eqb, leb}
 use lib.ListN.{length, getD, take, drop, length-append, length-take}
-use Rattle.frame.specs.Ground.{pick, unless, checked, Refusal, Test, all}
+use lib.Seq.{take-at, drop-append-add}
+use Rattle.frame.specs.Ground.{pick, unless, checked, joined, Refusal, Test, all}
 use Rattle.frame.specs.Build.{frame}
 use Rattle.frame.specs.Receive.{received, consumed}
 use Rattle.frame.specs.declared.receive.Received.{Received}
@@ -25,8 +26,9 @@ use Rattle.printer.specs.Answer.{ack, nack}
 use Rattle.printer.specs.Change.{set-message, set-parameters, set-both, edit-message, update-fields}
 use Rattle.printer.specs.Request.{ask-counter, ask-message, ask-table, ask-clock}
 use Rattle.printer.specs.Print.{print}
-use Rattle.printer.specs.Receive.{Handed, Outcome, outcome, handled, obeyed, order, enquire, kept, silent, refusal, done, answer-size, strips-size}
-use Rattle.printer.specs.OutcomeLaws.{Refuses, RefusalKeeps, ConsumesHandedIn, AcceptedAnswers, AnswerFits}
+use Rattle.printer.specs.Receive.{Handed, Outcome, outcome, handled, obeyed, order, enquire, kept, silent, refusal, done, answer-size, strips-size, Meets}
+use Rattle.printer.specs.OutcomeLaws.{Refuses, RefusalKeeps, ConsumesHandedIn, AcceptedAnswers, AnswerFits, total, Finds, LengthsTell}
+use Rattle.printer.specs.declared.answer.Answered.{Answered}
 use Rattle.printer.proofs.Outcomes.{Kind, silence, refused, accepted, outcome-kind}
 use Rattle.printer.proofs.OrderLaws.{order-case}
 use Rattle.printer.proofs.Valid.{valid-printer, valid-at, jet-short}
@@ -152,3 +154,26 @@ answer-fits m h =
     unless-tells Fits (valid-state m) _ _ (λ _. omega arith)
     (λ v. unless-case Fits (leb answer-size (h .answer-room)) _ _ (omega arith)
     (unless-case Fits (leb strips-size (h .strip-room)) _ _ (omega arith) (handled-fits m (h .bytes) (received (h .bytes)) v)))
+
+-- ---- What is laid over a buffer is found there again: the answer at the front, and each strip behind those before it.
+strip-found : (xs : List (List ℕ)) (rest : List ℕ) (i : ℕ)
+    → take (getD (map length xs) i 0) (drop (total (take i (map length xs))) (joined xs ++ rest)) ≡ getD xs i []
+strip-found [] rest zero = refl
+strip-found [] rest (suc i) = refl
+strip-found (x ∷ xs) rest zero = ap (take (length x)) (append-assoc x (joined xs) rest) ∙ take-at x (joined xs ++ rest) (length x) refl
+strip-found (x ∷ xs) rest (suc i) =
+    ap (take (getD (map length xs) i 0))
+    (ap (drop (length x + total (take i (map length xs)))) (append-assoc x (joined xs) rest)
+    ∙ drop-append-add x (joined xs ++ rest) (total (take i (map length xs))))
+    ∙ strip-found xs rest i
+
+found : {o : Outcome} {m answer strips : List ℕ} {r : Answered} {m′ answer′ strips′ : List ℕ} → Meets o m answer strips r m′ answer′ strips′ → Finds o r answer′ strips′
+found {o} {answer = answer} {strips = strips} x =
+    rw (x .answers, x .prints, x .answer-bytes, x .strip-bytes)
+    (record {
+      answer-there = take-at (o .answer) (drop (length (o .answer)) answer) (length (o .answer)) refl;
+      strip-there = strip-found (o .strips) (drop (length (joined (o .strips))) strips);
+    })
+
+pub lengths-tell : LengthsTell
+lengths-tell m s answer strips r m′ answer′ strips′ h = found (h .meets)
