@@ -16,7 +16,8 @@ use Rattle.frame.proofs.Ground.{length-over, over-under}
 use Rattle.frame.proofs.Told.{frame-length, answered-fits, wrap-fits}
 use Rattle.printer.specs.State.{bytes-of}
 use Rattle.printer.specs.Order.{Order, given, Obeys}
-use Rattle.printer.specs.Answer.{Tells}
+use Rattle.printer.specs.Answer.{Tells, Untold}
+use Rattle.printer.specs.declared.request.Told.{Told}
 
 -- ---- A test that the code makes with `if !..`: its call tells the rule's value.
 pub denied : {r b : Bool} → r ≡ b → not r ≡ true → b ≡ false
@@ -58,8 +59,8 @@ pub obeyed : {o : Order} {m : List ℕ} {m′ : List ℕ} → Passes (o .tests) 
 obeyed f e = record { number = passes-number f; state = rw (passes-all f) e }
 
 -- ---- An order that asks for a frame: refused it gives the number and writes nothing, else the frame stands at the buffer's front.
-pub untold : {o : Order} {before : List ℕ} {n : ℕ} → Fails (o .tests) n → Tells o before (record { number = n; size = 0 }) before
-untold f = record { number = fails-number f; size = rw (fails-all f); bytes = rw (fails-all f) }
+pub untold : {o : Order} {before : List ℕ} {n : ℕ} {r : Told} → Untold n r → Fails (o .tests) n → Tells o before r before
+untold u f = rw (u .told) (record { number = fails-number f; size = rw (fails-all f); bytes = rw (fails-all f) })
 
 pub told-frame : {o : Order} (identifier : ℕ) (d : List ℕ) {before after : List ℕ} {size : ℕ} → Passes (o .tests) → o .frame ≡ frame identifier d → size ≡ length d + 4
     → after ≡ over (frame identifier d) before → Tells o before (record { number = 0; size = size }) after

@@ -36,3 +36,7 @@ pub record Tells (o : Order) (before : List ℕ) (r : Told) (after : List ℕ) :
   pub number : r .number ≡ given (o .tests)
   pub size : r .size ≡ length (told o)
   pub bytes : after ≡ over (told o) before
+
+-- What is refused has a number alone.
+pub record Untold (number : ℕ) (r : Told) : Type 0 where
+  pub told : r ≡ record { number = number; size = 0 }

@@ -19,7 +19,7 @@ ghost use Prim.Native.Nat.{_≤_, _-_};
 ghost use lib.ListN.{length};
 ghost use mathlib.Core.Bool.{true};
 ghost use mathlib.Core.Path.{_≡_};
-ghost use Rattle.printer.specs.Answer.{Tells};
+ghost use Rattle.printer.specs.Answer.{Tells, Untold};
 ghost use Rattle.printer.specs.Request.{ask-clock, ask-counter, ask-message, ask-table};
 ghost use Rattle.printer.specs.State.{Printer, printer-of, state-size, valid-state};
 ghost use Rattle.printer.specs.Receive.{answer-size};
@@ -30,6 +30,13 @@ pub(crate) struct Told {
     pub size: usize,
 }
 
+// What is refused has no frame.
+fn refused(number: u8) -> Told
+    ensures { λ r. ⌜ Untold number r ⌝ }
+{
+    Told { number, size: 0 }
+}
+
 // 39h: the counter's digits, and the batch in three bytes.
 pub(crate) fn ask_counter(state: &[u8], d: &[u8], out: &mut [u8]) -> Told
     requires { ⌜ (length (now state) ≡ state-size) × (1 ≤ length (now d)) × (answer-size - 1 ≤ length (now out)) ⌝ }
@@ -37,15 +44,12 @@ pub(crate) fn ask_counter(state: &[u8], d: &[u8], out: &mut [u8]) -> Told
 {
     let at = place_in(state, d);
     if at == 0 {
-        return Told { number: 8, size: 0 };
+        return refused(8);
     }
     let end = at + JET;
     let jet = &state[at..end];
     if !has_parameters(jet) {
-        return Told {
-            number: 11,
-            size: 0,
-        };
+        return refused(11);
     }
     let text = counter_text(&jet[COUNTER_AT..JET]);
     answer(out, 0x39, &text);
@@ -62,21 +66,15 @@ pub(crate) fn ask_message(state: &[u8], d: &[u8], out: &mut [u8]) -> Told
 {
     let at = place_in(state, d);
     if at == 0 {
-        return Told { number: 8, size: 0 };
+        return refused(8);
     }
     let end = at + JET;
     let jet = &state[at..end];
     if !has_message(jet) {
-        return Told {
-            number: 11,
-            size: 0,
-        };
+        return refused(11);
     }
     if !has_parameters(jet) {
-        return Told {
-            number: 11,
-            size: 0,
-        };
+        return refused(11);
     }
     let text = message(jet);
     let n = 37 + text.len();

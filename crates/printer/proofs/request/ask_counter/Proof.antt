@@ -29,14 +29,15 @@ tested c = rw (part-jet (jet (c .before .before))) at (c .has-parameters .ensure
 
 returns : tie.Need-returns
 unfolding ask-counter
-returns c = untold (here (not-named (c .before .place-in .ensures) (c .if1 .taken)))
+returns c = untold (c .refused .ensures) (here (not-named (c .before .before .place-in .ensures) (c .before .if1 .taken)))
 
 returns-2 : tie.Need-returns-2
 unfolding ask-counter
 returns-2 c =
-    let at-place-in = c .before .before .before .before in
-    untold (past (named (at-place-in .place-in .ensures) (c .before .before .before .if1 .left))
-    (here (denied (tested (c .before)) (c .if2 .taken))))
+    let at-if2 = c .before in
+    let at-if1 = at-if2 .before .before .before in
+    untold (c .refused2 .ensures) (past (named (at-if1 .before .place-in .ensures) (at-if1 .if1 .left))
+    (here (denied (tested (at-if2 .before)) (at-if2 .if2 .taken))))
 
 returns-3 : tie.Need-returns-3
 unfolding ask-counter
@@ -56,11 +57,13 @@ ask-counter-spec =
     tie.close
     (tie.spec
     (λ c κs. search needs)
+    (λ c κs. search needs)
     returns
     (λ c. search needs)
     (λ c. search needs)
     (λ c. search needs)
     (λ c. search needs)
+    (λ c κs. search needs)
     (λ c κs. search needs)
     returns-2
     (λ c. search needs)

@@ -69,7 +69,7 @@ place-in-requires c κs = (valid-size _ (c .before .before .before .pre .0), c .
 
 returns : tie.Need-returns
 unfolding ask-message
-returns c = untold (here (not-named (c .before .place-in .ensures) (c .if1 .taken)))
+returns c = untold (c .refused .ensures) (here (not-named (c .before .before .place-in .ensures) (c .before .if1 .taken)))
 
 part-jet-end : tie.Need-part-jet-end
 part-jet-end c = part-inside (jet c)
@@ -77,17 +77,19 @@ part-jet-end c = part-inside (jet c)
 returns-2 : tie.Need-returns-2
 unfolding ask-message
 returns-2 c =
-    let at-place-in = c .before .before .before .before in
-    untold (past (named (at-place-in .place-in .ensures) (c .before .before .before .if1 .left))
-    (here (rw (denied (tested (c .before)) (c .if2 .taken)))))
+    let at-if2 = c .before in
+    let at-if1 = at-if2 .before .before .before in
+    untold (c .refused2 .ensures) (past (named (at-if1 .before .place-in .ensures) (at-if1 .if1 .left))
+    (here (rw (denied (tested (at-if2 .before)) (at-if2 .if2 .taken)))))
 
 returns-3 : tie.Need-returns-3
 unfolding ask-message
 returns-3 c =
-    let at-if1 = c .before .before .before .before .before in
-    let at-place-in = at-if1 .before in
-    untold (past (named (at-place-in .place-in .ensures) (at-if1 .if1 .left))
-    (here (rw (filled (c .before .before)) (denied (tested-2 (c .before)) (c .if3 .taken)))))
+    let at-if3 = c .before in
+    let at-if2 = at-if3 .before .before in
+    let at-if1 = at-if2 .before .before .before in
+    untold (c .refused3 .ensures) (past (named (at-if1 .before .place-in .ensures) (at-if1 .if1 .left))
+    (here (rw (filled at-if2) (denied (tested-2 (at-if3 .before)) (at-if3 .if3 .taken)))))
 
 message-requires : tie.Need-message-requires
 message-requires c κs = (part-size (jet (c .before .before .before .before .before)), part-short (jet (c .before .before .before .before .before)) (c .before .before .before .before .before .before .before .before .before .before .pre .0))
@@ -121,13 +123,16 @@ ask-message-spec =
     tie.close
     (tie.spec
     place-in-requires
+    (λ c κs. search needs)
     returns
     (λ c. search needs)
     (λ c. search needs)
     (λ c. search needs)
     part-jet-end
     (λ c κs. search needs)
+    (λ c κs. search needs)
     returns-2
+    (λ c κs. search needs)
     (λ c κs. search needs)
     returns-3
     message-requires
