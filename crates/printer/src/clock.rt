@@ -2,7 +2,7 @@
 ghost use mathlib.Core.Bool.{true};
 ghost use mathlib.Core.Path.{_≡_};
 ghost use Rattle.frame.specs.Ground.{within};
-ghost use Rattle.printer.specs.Clock.{clock-text, days-in, entries, is-date, is-leap, is-real, month-entry, next-date, next-hour, next-minute, next-month, next-year, ones, tens, tick};
+ghost use Rattle.printer.specs.Clock.{clock-text, date, days-in, entries, is-date, is-leap, is-real, moment, month-entry, next-date, next-hour, next-minute, next-month, next-year, ones, tens, tick};
 
 // Years are 0 to 99, for 2000 to 2099.
 pub struct Date {
@@ -58,6 +58,23 @@ fn days_in(month: u8, year: u8) -> u8
     31
 }
 
+fn date_of(day: u8, month: u8, year: u8) -> Date
+    ensures { λ r. ⌜ r ≡ date day month year ⌝ }
+{
+    Date { day, month, year }
+}
+
+fn moment(second: u8, minute: u8, hour: u8, date: Date) -> Clock
+    ensures { λ r. ⌜ r ≡ moment second minute hour date ⌝ }
+{
+    Clock {
+        second,
+        minute,
+        hour,
+        date,
+    }
+}
+
 impl Date {
     // A day of the years 2000 to 2099.
     fn is_date(self) -> bool
@@ -83,17 +100,9 @@ impl Date {
     {
         let year = self.year;
         if year < 99 {
-            return Date {
-                day: 1,
-                month: 1,
-                year: year + 1,
-            };
+            return date_of(1, 1, year + 1);
         }
-        Date {
-            day: 1,
-            month: 1,
-            year: 0,
-        }
+        date_of(1, 1, 0)
     }
 
     fn next_month(self) -> Date
@@ -101,11 +110,7 @@ impl Date {
     {
         let month = self.month;
         if month < 12 {
-            return Date {
-                day: 1,
-                month: month + 1,
-                year: self.year,
-            };
+            return date_of(1, month + 1, self.year);
         }
         self.next_year()
     }
@@ -116,11 +121,7 @@ impl Date {
     {
         let day = self.day;
         if day < days_in(self.month, self.year) {
-            return Date {
-                day: day + 1,
-                month: self.month,
-                year: self.year,
-            };
+            return date_of(day + 1, self.month, self.year);
         }
         self.next_month()
     }
@@ -150,19 +151,9 @@ impl Clock {
         let hour = self.hour;
         let date = self.date;
         if hour < 23 {
-            return Clock {
-                second: 0,
-                minute: 0,
-                hour: hour + 1,
-                date,
-            };
+            return moment(0, 0, hour + 1, date);
         }
-        Clock {
-            second: 0,
-            minute: 0,
-            hour: 0,
-            date: date.next_date(),
-        }
+        moment(0, 0, 0, date.next_date())
     }
 
     fn next_minute(self) -> Clock
@@ -171,12 +162,7 @@ impl Clock {
         let minute = self.minute;
         let date = self.date;
         if minute < 59 {
-            return Clock {
-                second: 0,
-                minute: minute + 1,
-                hour: self.hour,
-                date,
-            };
+            return moment(0, minute + 1, self.hour, date);
         }
         self.next_hour()
     }
@@ -188,12 +174,7 @@ impl Clock {
         let second = self.second;
         let date = self.date;
         if second < 59 {
-            return Clock {
-                second: second + 1,
-                minute: self.minute,
-                hour: self.hour,
-                date,
-            };
+            return moment(second + 1, self.minute, self.hour, date);
         }
         self.next_minute()
     }

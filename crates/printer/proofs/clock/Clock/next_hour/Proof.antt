@@ -7,11 +7,11 @@ use Rattle.printer.proofs.clock.Clock.next_hour.Tie as tie
 
 returns : tie.Need-returns
 unfolding next-hour
-returns c = search tests
+returns c = rw (c .moment .ensures) (search tests)
 
 returns-2 : tie.Need-returns-2
 unfolding next-hour
-returns-2 c = rw (← c .next-date .ensures) (search tests)
+returns-2 c = rw (c .moment2 .ensures, ← c .before .next-date .ensures) (search tests)
 
 pub next-hour-spec : {M : Type 1} → statement M
-next-hour-spec = tie.close (tie.spec (λ c. search needs) returns (λ c κs. search needs) returns-2)
+next-hour-spec = tie.close (tie.spec (λ c. search needs) (λ c κs. search needs) returns (λ c κs. search needs) (λ c κs. search needs) returns-2)

@@ -7,11 +7,11 @@ use Rattle.printer.proofs.clock.Clock.next_minute.Tie as tie
 
 returns : tie.Need-returns
 unfolding next-minute
-returns c = search tests
+returns c = rw (c .moment .ensures) (search tests)
 
 returns-2 : tie.Need-returns-2
 unfolding next-minute
 returns-2 c = rw (← c .next-hour .ensures) (search tests)
 
 pub next-minute-spec : {M : Type 1} → statement M
-next-minute-spec = tie.close (tie.spec (λ c. search needs) returns (λ c κs. search needs) returns-2)
+next-minute-spec = tie.close (tie.spec (λ c. search needs) (λ c κs. search needs) returns (λ c κs. search needs) returns-2)

@@ -7,11 +7,11 @@ use Rattle.printer.proofs.clock.Clock.tick.Tie as tie
 
 returns : tie.Need-returns
 unfolding tick
-returns c = search tests
+returns c = rw (c .moment .ensures) (search tests)
 
 returns-2 : tie.Need-returns-2
 unfolding tick
 returns-2 c = rw (← c .next-minute .ensures) (search tests)
 
 pub tick-spec : {M : Type 1} → statement M
-tick-spec = tie.close (tie.spec (λ c. search needs) returns (λ c κs. search needs) returns-2)
+tick-spec = tie.close (tie.spec (λ c. search needs) (λ c κs. search needs) returns (λ c κs. search needs) returns-2)

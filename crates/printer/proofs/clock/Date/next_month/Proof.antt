@@ -7,11 +7,11 @@ use Rattle.printer.proofs.clock.Date.next_month.Tie as tie
 
 returns : tie.Need-returns
 unfolding next-month
-returns c = search tests
+returns c = rw (c .date-of .ensures) (search tests)
 
 returns-2 : tie.Need-returns-2
 unfolding next-month
 returns-2 c = rw (← c .next-year .ensures) (search tests)
 
 pub next-month-spec : {M : Type 1} → statement M
-next-month-spec = tie.close (tie.spec (λ c. search needs) returns (λ c κs. search needs) returns-2)
+next-month-spec = tie.close (tie.spec (λ c. search needs) (λ c κs. search needs) returns (λ c κs. search needs) returns-2)

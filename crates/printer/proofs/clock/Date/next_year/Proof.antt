@@ -7,11 +7,11 @@ use Rattle.printer.proofs.clock.Date.next_year.Tie as tie
 
 returns : tie.Need-returns
 unfolding next-year
-returns c = search tests
+returns c = rw (c .date-of .ensures) (search tests)
 
 returns-2 : tie.Need-returns-2
 unfolding next-year
-returns-2 c = search tests
+returns-2 c = rw (c .date-of2 .ensures) (search tests)
 
 pub next-year-spec : {M : Type 1} → statement M
-next-year-spec = tie.close (tie.spec (λ c. search needs) returns returns-2)
+next-year-spec = tie.close (tie.spec (λ c. search needs) (λ c κs. search needs) returns (λ c κs. search needs) returns-2)
