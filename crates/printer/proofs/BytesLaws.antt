@@ -15,7 +15,7 @@ use Rattle.frame.proofs.Ground.{pick-case, both-true, within-true, length-over,
 use Rattle.printer.specs.Clock.{is-real, is-leap, days-in}
 use Rattle.printer.specs.Number.{is-digit, all-digits, value-from, number-from, number-of, in-bytes}
 use Rattle.printer.specs.Counter.{Counter, control, all-digits-in, initial, final, step, lot, good-settings, grown, next-value, next-batch, is-set, moved, counted, valid-counter, counter-size, counter-of, counter-bytes}
-use Rattle.printer.specs.Jet.{Jet, has-jet, good-parameters, valid-jet, counted-jet, jet-size, jet-of, jet-bytes}
+use Rattle.printer.specs.Jet.{Jet, has-jet, good-parameters, valid-jet, counted-jet, general-place, counter-place, jet-size, jet-of, jet-bytes}
 use Rattle.printer.specs.State.{state-size, empty-jet, jets-of, printer-of, bytes-of, valid, valid-state}
 use Rattle.printer.specs.BytesLaws.{AllBytes, SizedCounter, SizedJet, SizedJets, SizedMoment, AllOf, StateBack, SameBytes, PrinterBack, BytesFull, ValidBytes, SizedOf, SizedFresh, SizedWithJet, SizedClock, SizedEach, SizedMessage, SizedParameters, SizedPrint}
 use Rattle.printer.specs.declared.clock.Clock.{Clock}
@@ -162,8 +162,8 @@ sized-jet b full f =
     record {
       message = number-below 2 0 1 b f (omega arith);
       content = part-length 2 512 b (omega arith);
-      general = part-length 514 11 b (omega arith);
-      counter = sized-counter _ (part-length 525 counter-size b (omega arith)) (part-all 525 counter-size b f);
+      general = part-length general-place 11 b (omega arith);
+      counter = sized-counter _ (part-length counter-place counter-size b (omega arith)) (part-all counter-place counter-size b f);
     }
 
 sized-row : (k : ℕ) (b : List ℕ) → length b ≡ jet-size * k → AllBytes b → SizedJets (jets-of k b)
@@ -364,9 +364,9 @@ record Countable (j : Jet) : Type 0 where
 lot-of : (b : List ℕ) → AllBytes b → lot (jet-of b .counter .settings) < 16_777_216
 unfolding jet-of counter-of
 lot-of b f =
-    let held : List ℕ = take counter-size (drop 525 b) in
+    let held : List ℕ = take counter-size (drop counter-place b) in
     let q : List ℕ = take 26 held in
-    number-below 3 0 1 (drop 21 q) (drop-all 21 q (part-all 0 26 held (part-all 525 counter-size b f))) (omega arith)
+    number-below 3 0 1 (drop 21 q) (drop-all 21 q (part-all 0 26 held (part-all counter-place counter-size b f))) (omega arith)
 
 countable-row : (model n k : ℕ) (b : List ℕ) → length b ≡ jet-size * k → AllBytes b
     → every (λ (i : ℕ) (j : Jet). valid-jet (has-jet model i) j) n (jets-of k b) ≡ true → AllOf Countable (jets-of k b)

@@ -22,7 +22,7 @@ use Rattle.content.specs.declared.edit.Edited.{Edited}
 use Rattle.content.specs.declared.edit.Edited.the-variants.{Done}
 use Rattle.printer.specs.Number.{number-of, in-bytes}
 use Rattle.printer.specs.Counter.{Counter, set-to, counted, counter-size, counter-of, counter-bytes}
-use Rattle.printer.specs.Jet.{message, parameters, jet-size, jet-of, jet-bytes, with-message, with-parameters, counted-jet}
+use Rattle.printer.specs.Jet.{message, parameters, general-place, counter-place, jet-size, jet-of, jet-bytes, with-message, with-parameters, counted-jet}
 use Rattle.printer.specs.Change.{EditsJet, edited-jet, updated-jet, with-both}
 use Rattle.printer.proofs.Numbers.{Bytes, bytes-take, bytes-drop, bytes-back}
 use Rattle.printer.proofs.Counters.{counter-back}
@@ -55,18 +55,18 @@ over-front s xs n h g =
 
 -- ---- The bytes of a jet, part by part.
 module _ (b : List ℕ) (full : length b ≡ jet-size) (f : Bytes b) where
-  counter-kept : counter-bytes (counter-of (take counter-size (drop 525 b))) ≡ drop 525 b
+  counter-kept : counter-bytes (counter-of (take counter-size (drop counter-place b))) ≡ drop counter-place b
   counter-kept =
-      counter-back (take counter-size (drop 525 b)) (simp (length-take, length-drop) (omega arith)) (bytes-take counter-size (drop 525 b) (bytes-drop 525 b f))
-      ∙ take-all counter-size (drop 525 b) (simp length-drop (omega arith))
+      counter-back (take counter-size (drop counter-place b)) (simp (length-take, length-drop) (omega arith)) (bytes-take counter-size (drop counter-place b) (bytes-drop counter-place b f))
+      ∙ take-all counter-size (drop counter-place b) (simp length-drop (omega arith))
 
-  tail-kept : take 11 (drop 514 b) ++ counter-bytes (counter-of (take counter-size (drop 525 b))) ≡ drop 514 b
-  tail-kept = ap (λ (l : List ℕ). take 11 (drop 514 b) ++ l) (counter-kept ∙ sym (drop-drop 11 514 b)) ∙ take-append-drop 11 (drop 514 b)
+  tail-kept : take 11 (drop general-place b) ++ counter-bytes (counter-of (take counter-size (drop counter-place b))) ≡ drop general-place b
+  tail-kept = ap (λ (l : List ℕ). take 11 (drop general-place b) ++ l) (counter-kept ∙ sym (drop-drop 11 general-place b)) ∙ take-append-drop 11 (drop general-place b)
 
   length-kept : in-bytes 2 (number-of (take 2 b)) ≡ take 2 b
   length-kept = bytes-back 2 (take 2 b) (length-take-le 2 b (omega arith)) (bytes-take 2 b f)
 
-  head-kept : (r : List ℕ) → in-bytes 2 (number-of (take 2 b)) ++ (take 512 (drop 2 b) ++ r) ≡ take 514 b ++ r
+  head-kept : (r : List ℕ) → in-bytes 2 (number-of (take 2 b)) ++ (take 512 (drop 2 b) ++ r) ≡ take general-place b ++ r
   head-kept r =
       ap (λ (l : List ℕ). l ++ (take 512 (drop 2 b) ++ r)) length-kept
       ∙ sym (append-assoc (take 2 b) (take 512 (drop 2 b)) r)
@@ -75,7 +75,7 @@ module _ (b : List ℕ) (full : length b ≡ jet-size) (f : Bytes b) where
   -- Reading and writing undo each other.
   pub jet-back : jet-bytes (jet-of b) ≡ b
   unfolding jet-of jet-bytes
-  jet-back = head-kept _ ∙ ap (λ (l : List ℕ). take 514 b ++ l) tail-kept ∙ take-append-drop 514 b
+  jet-back = head-kept _ ∙ ap (λ (l : List ℕ). take general-place b ++ l) tail-kept ∙ take-append-drop general-place b
 
   -- Another message: two bytes, then the message over the content.
   pub message-bytes : (s : List ℕ) → length s ≤ 512 → jet-bytes (with-message (jet-of b) s) ≡ over (in-bytes 2 (length s) ++ s) b
@@ -96,18 +96,18 @@ module _ (b : List ℕ) (full : length b ≡ jet-size) (f : Bytes b) where
       ∙ ap (λ (l : List ℕ). l ++ (s ++ drop (number-of (take 2 b)) (drop 2 b))) length-kept
 
   -- Other parameters: all behind the content.
-  pub parameters-bytes : (q : List ℕ) → jet-bytes (with-parameters (jet-of b) q) ≡ take 514 b ++ (take 11 q ++ counter-bytes (set-to (drop 11 q)))
+  pub parameters-bytes : (q : List ℕ) → jet-bytes (with-parameters (jet-of b) q) ≡ take general-place b ++ (take 11 q ++ counter-bytes (set-to (drop 11 q)))
   unfolding jet-of jet-bytes
   parameters-bytes q = head-kept _
 
   -- Another counter: the last 34 bytes.
   pub counter-put : (c : Counter)
-      → jet-bytes (record { length = jet-of b .length; content = jet-of b .content; general = jet-of b .general; counter = c }) ≡ take 525 b ++ counter-bytes c
+      → jet-bytes (record { length = jet-of b .length; content = jet-of b .content; general = jet-of b .general; counter = c }) ≡ take counter-place b ++ counter-bytes c
   unfolding jet-of jet-bytes
   counter-put c =
       head-kept _
-      ∙ sym (append-assoc (take 514 b) (take 11 (drop 514 b)) (counter-bytes c))
-      ∙ ap (λ (l : List ℕ). l ++ counter-bytes c) (sym (take-add 514 11 b))
+      ∙ sym (append-assoc (take general-place b) (take 11 (drop general-place b)) (counter-bytes c))
+      ∙ ap (λ (l : List ℕ). l ++ counter-bytes c) (sym (take-add general-place 11 b))
 
 -- ---- What a function of a jet reads from its bytes.
 pub message-lent : (b : List ℕ) {n : ℕ} → n ≡ jet-of b .length → jet-of b .length ≤ 512 → midOf 2 (2 + n - 2) b ≡ message (jet-of b)
@@ -115,15 +115,15 @@ unfolding jet-of
 message-lent b {n} e h =
     ap (λ (k : ℕ). midOf 2 k b) (behind n ∙ e) ∙ sym (take-take (number-of (take 2 b)) 512 (drop 2 b) h)
 
-pub parameters-lent : (b : List ℕ) → midOf 514 37 b ≡ parameters (jet-of b)
+pub parameters-lent : (b : List ℕ) → midOf general-place 37 b ≡ parameters (jet-of b)
 unfolding jet-of counter-of
 parameters-lent b =
-    take-add 11 26 (drop 514 b)
-    ∙ ap (λ (l : List ℕ). take 11 (drop 514 b) ++ l) (ap (take 26) (drop-drop 11 514 b) ∙ sym (take-take 26 34 (drop 525 b) (omega arith)))
+    take-add 11 26 (drop general-place b)
+    ∙ ap (λ (l : List ℕ). take 11 (drop general-place b) ++ l) (ap (take 26) (drop-drop 11 general-place b) ∙ sym (take-take 26 34 (drop counter-place b) (omega arith)))
 
 pub set-lent : (b : List ℕ) → getD b 551 0 ≡ jet-of b .counter .set
 unfolding jet-of counter-of
-set-lent b = sym (getD-take 34 (drop 525 b) 26 0 (omega arith) ∙ getD-drop 525 b 26 0)
+set-lent b = sym (getD-take 34 (drop counter-place b) 26 0 (omega arith) ∙ getD-drop counter-place b 26 0)
 
 -- A message has at most 512 bytes, and no more field positions than bytes.
 positions-most : (m : Mode) (s : List ℕ) → field-positions-from m s ≤ length s
@@ -198,24 +198,24 @@ module _ (b : List ℕ) (full : length b ≡ jet-size) (f : Bytes b) where
       ∙ sym (message-bytes b full f s h)
 
   -- Other parameters.
-  pub parameters-left : (q : List ℕ) {general last : List ℕ} {r : Bool} → length q ≡ 37 → Lays (midOf 514 11 b) (take 11 q) r general
-      → last ≡ counter-bytes (set-to (midOf 11 (length q - 11) q)) → putMid 525 34 (putMid 514 11 b general) last ≡ jet-bytes (with-parameters (jet-of b) q)
+  pub parameters-left : (q : List ℕ) {general last : List ℕ} {r : Bool} → length q ≡ 37 → Lays (midOf general-place 11 b) (take 11 q) r general
+      → last ≡ counter-bytes (set-to (midOf 11 (length q - 11) q)) → putMid counter-place 34 (putMid general-place 11 b general) last ≡ jet-bytes (with-parameters (jet-of b) q)
   parameters-left q {general} {last} e p t =
       let eleven : length (take 11 q) ≡ 11 = length-take-le 11 q (omega arith) in
-      let room : length (midOf 514 11 b) ≡ 11 = length-take-le 11 (drop 514 b) (simp length-drop (omega arith)) in
+      let room : length (midOf general-place 11 b) ≡ 11 = length-take-le 11 (drop general-place b) (simp length-drop (omega arith)) in
       let g : general ≡ take 11 q =
       p .buffer
-      ∙ ap (λ (t : Bool). over (pick t (take 11 q) []) (midOf 514 11 b)) (le-leb (length (take 11 q)) (length (midOf 514 11 b)) (omega arith))
-      ∙ ap (λ (l : List ℕ). take 11 q ++ l) (drop-of-length-le (midOf 514 11 b) {i = length (take 11 q)} (omega arith))
+      ∙ ap (λ (t : Bool). over (pick t (take 11 q) []) (midOf general-place 11 b)) (le-leb (length (take 11 q)) (length (midOf general-place 11 b)) (omega arith))
+      ∙ ap (λ (l : List ℕ). take 11 q ++ l) (drop-of-length-le (midOf general-place 11 b) {i = length (take 11 q)} (omega arith))
       ∙ append-nil (take 11 q) in
-      let before : length (take 514 b) ≡ 514 = length-take-le 514 b (omega arith) in
-      let front : length (take 514 b ++ take 11 q) ≡ 525 = simp length-append (omega arith) in
-      ap (λ (l : List ℕ). putMid 525 34 (putMid 514 11 b l) last) g
-      ∙ ap (λ (l : List ℕ). putMid 525 34 l last) (sym (append-assoc (take 514 b) (take 11 q) (drop 11 (drop 514 b))))
-      ∙ end-back 525 34 ((take 514 b ++ take 11 q) ++ drop 11 (drop 514 b)) last (simp (length-append, length-drop) (omega arith))
-      ∙ ap (λ (l : List ℕ). l ++ last) (take-at (take 514 b ++ take 11 q) (drop 11 (drop 514 b)) 525 front)
-      ∙ append-assoc (take 514 b) (take 11 q) last
-      ∙ ap (λ (l : List ℕ). take 514 b ++ (take 11 q ++ l)) (t ∙ ap (λ (l : List ℕ). counter-bytes (set-to l)) (lent-tail 11 q))
+      let before : length (take general-place b) ≡ general-place = length-take-le general-place b (omega arith) in
+      let front : length (take general-place b ++ take 11 q) ≡ counter-place = simp length-append (omega arith) in
+      ap (λ (l : List ℕ). putMid counter-place 34 (putMid general-place 11 b l) last) g
+      ∙ ap (λ (l : List ℕ). putMid counter-place 34 l last) (sym (append-assoc (take general-place b) (take 11 q) (drop 11 (drop general-place b))))
+      ∙ end-back counter-place 34 ((take general-place b ++ take 11 q) ++ drop 11 (drop general-place b)) last (simp (length-append, length-drop) (omega arith))
+      ∙ ap (λ (l : List ℕ). l ++ last) (take-at (take general-place b ++ take 11 q) (drop 11 (drop general-place b)) counter-place front)
+      ∙ append-assoc (take general-place b) (take 11 q) last
+      ∙ ap (λ (l : List ℕ). take general-place b ++ (take 11 q ++ l)) (t ∙ ap (λ (l : List ℕ). counter-bytes (set-to l)) (lent-tail 11 q))
       ∙ sym (parameters-bytes b full f q)
 
   -- Both.
@@ -227,12 +227,12 @@ module _ (b : List ℕ) (full : length b ≡ jet-size) (f : Bytes b) where
       let whole : length content ≡ 512 = length-over s (take 512 (drop 2 b)) (simp (length-take, length-drop) (omega arith)) ∙ length-take-le 512 (drop 2 b) (simp length-drop (omega arith)) in
       p
       ∙ parameters-bytes between n g q
-      ∙ ap (λ (l : List ℕ). take 514 l ++ (take 11 q ++ counter-bytes (set-to (drop 11 q)))) e
+      ∙ ap (λ (l : List ℕ). take general-place l ++ (take 11 q ++ counter-bytes (set-to (drop 11 q)))) e
       ∙ ap (λ (l : List ℕ). (in-bytes 2 (length s) ++ l) ++ (take 11 q ++ counter-bytes (set-to (drop 11 q)))) (take-at content _ 512 whole)
       ∙ append-assoc (in-bytes 2 (length s)) content _
 
   -- A count.
-  pub counted-left : {last : List ℕ} → last ≡ counter-bytes (counted (counter-of (midOf 525 34 b))) → putMid 525 34 b last ≡ jet-bytes (counted-jet (jet-of b))
+  pub counted-left : {last : List ℕ} → last ≡ counter-bytes (counted (counter-of (midOf counter-place 34 b))) → putMid counter-place 34 b last ≡ jet-bytes (counted-jet (jet-of b))
   unfolding jet-of
   counted-left {last} p =
-      end-back 525 34 b last full ∙ ap (λ (l : List ℕ). take 525 b ++ l) p ∙ sym (counter-put b full f (counted (counter-of (midOf 525 34 b))))
+      end-back counter-place 34 b last full ∙ ap (λ (l : List ℕ). take counter-place b ++ l) p ∙ sym (counter-put b full f (counted (counter-of (midOf counter-place 34 b))))

@@ -78,7 +78,7 @@ printed-all {xs} {before} {n = n} four h g p =
     )
 
 -- The strip of the next jet.
-pub strip-next : (m es : List ℕ) {at n : ℕ} → n < 4 → at ≡ 7 + 559 * n → es ≡ entries (printer-of m .clock)
+pub strip-next : (m es : List ℕ) {at n : ℕ} → n < 4 → at ≡ 7 + jet-size * n → es ≡ entries (printer-of m .clock)
     → getD (strips (printer-of m)) n [] ≡ strip-of es (jet-of (midOf at (at + jet-size - at) m))
 strip-next m es {n = n} h e q =
     let p : Printer = printer-of m in
@@ -115,7 +115,7 @@ part-laid {a} {w} {before} {after} k last l e h =
     }
 
 pub record Counted (m m′ : List ℕ) (at n : ℕ) : Type 0 where
-  pub place : at ≡ 7 + 559 * n
+  pub place : at ≡ 7 + jet-size * n
   pub laid : Laid at (front (printer-of m) ++ joined (take n (counted-bytes (printer-of m)))) m m′
 
 front-stays : (p : Printer) {m : List ℕ} → bytes-of p ≡ m → m ≡ over (front p ++ []) m
@@ -150,7 +150,7 @@ counted-more {m} {m′} {at} {n} {last} full h c size e =
     record {
       place = omega (arith, c .place);
       laid = rw (joined-next (counted-bytes p) n (omega (arith, counted-four m, length-map (counted-jets p .jets) jet-bytes)) next)
-          (part-laid 559 last (c .laid) size (omega (arith, c .place)));
+          (part-laid jet-size last (c .laid) size (omega (arith, c .place)));
     }
 
 pub counted-all : {m m′ : List ℕ} {at n : ℕ} → length m ≡ state-size → 4 ≤ n → n ≤ 4 → Counted m m′ at n → m′ ≡ bytes-of (counted-jets (printer-of m))

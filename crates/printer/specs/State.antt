@@ -54,8 +54,11 @@ abbrev pub fresh-printer : ℕ → Clock → Printer
 fresh-printer model clock = record { model = model; clock = clock; jets = replicate 4 empty-jet }
 
 -- The 2,243 bytes of a state: type (1), seconds, minutes, hours, day, month, year (1 each), and four jets of 559.
+abbrev pub jets-place : ℕ
+jets-place = 7
+
 abbrev pub state-size : ℕ
-state-size = 2243
+state-size = jets-place + 4 * jet-size
 
 abbrev pub clock-of : List ℕ → Clock
 clock-of b = moment (getD b 0 0) (getD b 1 0) (getD b 2 0) (date (getD b 3 0) (getD b 4 0) (getD b 5 0))
@@ -70,10 +73,10 @@ jets-of (suc count) b = jet-of (take jet-size b) ∷ jets-of count (drop jet-siz
 
 -- Where the jet of a number begins.
 abbrev pub jet-place : ℕ → ℕ
-jet-place n = 7 + jet-size * (n - 1)
+jet-place n = jets-place + jet-size * (n - 1)
 
 unfoldable pub printer-of : List ℕ → Printer
-printer-of m = record { model = getD m 0 0; clock = clock-of (drop 1 m); jets = jets-of 4 (drop 7 m) }
+printer-of m = record { model = getD m 0 0; clock = clock-of (drop 1 m); jets = jets-of 4 (drop jets-place m) }
 
 unfoldable pub bytes-of : Printer → List ℕ
 bytes-of p = p .model ∷ (clock-bytes (p .clock) ++ joined (map jet-bytes (p .jets)))

@@ -16,11 +16,11 @@ ghost use Rattle.printer.specs.Print.{asked, ready};
 ghost use Rattle.printer.specs.State.{bytes-of, every-jet, fresh-printer, jet-place, printer-of, state-size, valid-state, with-clock};
 ghost use Rattle.printer.specs.Jet.{jet-size};
 
-// How many bytes a state has: type (1), seconds, minutes, hours, day, month, year (1 each), and four jets.
-pub const STATE: usize = 2243;
-
-// Where the first jet begins.
+// Where the first jet begins, behind type, seconds, minutes, hours, day, month and year (1 each).
 pub(crate) const JETS: usize = 7;
+
+// How many bytes a state has, with its four jets.
+pub const STATE: usize = JETS + 4 * JET;
 
 // The part of a state that a jet is begins here.
 pub(crate) fn jet_place(n: JetNumber) -> usize

@@ -5,7 +5,7 @@ use native.Mathlib.Omega.{arith}
 use lib.ListN.{length}
 use Rattle.frame.proofs.Lent.{laid-length, lent-room}
 use Rattle.printer.specs.Clock.{entries}
-use Rattle.printer.specs.Jet.{has-jet}
+use Rattle.printer.specs.Jet.{has-jet, jet-size}
 use Rattle.printer.specs.State.{jet-at, printer-of}
 use Rattle.printer.specs.Print.{strips}
 use Rattle.printer.proofs.Memory.{part-full, jet-lent}
@@ -15,7 +15,7 @@ use Rattle.printer.proofs.print.print_strips.Statement.{statement}
 use Rattle.printer.proofs.print.print_strips.Tie as tie
 
 abbrev Inv-loop : tie.InvT-loop
-Inv-loop state out₀ entries lengths₀ at₀ behind₀ n₀ out lengths at behind n = (n ≤ 4) × (at ≡ 7 + 559 * n) × Printed (strips (printer-of state)) out₀ out lengths behind n
+Inv-loop state out₀ entries lengths₀ at₀ behind₀ n₀ out lengths at behind n = (n ≤ 4) × (at ≡ 7 + jet-size * n) × Printed (strips (printer-of state)) out₀ out lengths behind n
 
 abbrev μ-loop : tie.MeasureT-loop
 μ-loop state out₀ entries lengths₀ at₀ behind₀ n₀ out lengths at behind n = 4 - n

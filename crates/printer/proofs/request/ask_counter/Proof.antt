@@ -8,7 +8,7 @@ use borrow.Rule.Slice.PartMut.{midOf}
 use lib.ListN.{length}
 use Rattle.frame.specs.Build.{frame}
 use Rattle.printer.specs.Counter.{counter-size, counter-of, counter-text}
-use Rattle.printer.specs.Jet.{Jet, has-parameters, jet-size, jet-of}
+use Rattle.printer.specs.Jet.{Jet, has-parameters, counter-place, jet-size, jet-of}
 use Rattle.printer.specs.State.{jet-at, printer-of}
 use Rattle.printer.specs.Order.{jet-number, jet-in}
 use Rattle.printer.specs.Request.{ask-counter}
@@ -17,7 +17,7 @@ use Rattle.printer.proofs.Part.{Stands, part-jet, not-named, named, sta
 use Rattle.printer.proofs.request.ask_counter.Statement.{statement}
 use Rattle.printer.proofs.request.ask_counter.Tie as tie
 
-part-counter : {m : List ℕ} {n at : ℕ} → Stands m n at → counter-of (midOf 525 counter-size (midOf at (at + jet-size - at) m)) ≡ jet-at (printer-of m) n .counter
+part-counter : {m : List ℕ} {n at : ℕ} → Stands m n at → counter-of (midOf counter-place counter-size (midOf at (at + jet-size - at) m)) ≡ jet-at (printer-of m) n .counter
 unfolding jet-of
 part-counter s = ap (λ (j : Jet). j .counter) (part-jet s)
 
