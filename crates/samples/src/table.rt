@@ -31,6 +31,7 @@ use crate::text::byte_at;
 use crate::text::bytes_in;
 use crate::text::number;
 use crate::text::small;
+use content::byte::within;
 use frame::build::lay;
 use printer::answer::ANSWER;
 use printer::answer::STRIPS as STRIP_BUFFER;
@@ -59,6 +60,11 @@ fn moment(line: &[u8], k: usize) -> Clock
 // More bytes than a line overwrites.
 const DAMAGE: usize = 64;
 
+// Whether a line begins with a word, and not with bytes in hex: the small letters are none of these.
+fn is_word(b: u8) -> bool {
+    within(0x61, 0x7A, b)
+}
+
 // The bytes of a line go into a call.
 fn with_bytes(line: &[u8], state: &mut [u8], answer: &mut [u8], strips: &mut [u8], rooms: Rooms) {
     let mut s = [0; BYTES];
@@ -74,6 +80,10 @@ fn with_bytes(line: &[u8], state: &mut [u8], answer: &mut [u8], strips: &mut [u8
     }
     if begins(line, b"nothing") {
         hand_in(state, b"", answer, strips, rooms);
+        return;
+    }
+    if is_word(byte_at(line, 0)) {
+        lower(line);
         return;
     }
     let n = bytes_in(line, 0, &mut s);
@@ -102,35 +112,6 @@ fn damage(line: &[u8], state: &mut [u8], answer: &mut [u8], strips: &mut [u8], r
     poke(line, state);
     every_call(state, answer, strips, rooms, moment(b"0 0 0 0 0 0", 0));
     lay(&mut state[at..], front(&before, DAMAGE));
-}
-
-// Whether a line makes a call of a lower crate.
-fn is_lower(line: &[u8]) -> bool {
-    if begins(line, b"build") {
-        return true;
-    }
-    if begins(line, b"answer") {
-        return true;
-    }
-    if begins(line, b"wrap") {
-        return true;
-    }
-    if begins(line, b"lay") {
-        return true;
-    }
-    if begins(line, b"strip") {
-        return true;
-    }
-    if begins(line, b"put") {
-        return true;
-    }
-    if begins(line, b"edit") {
-        return true;
-    }
-    if begins(line, b"update") {
-        return true;
-    }
-    begins(line, b"positions")
 }
 
 // A frame of the first byte and the others.
@@ -203,10 +184,6 @@ fn obey(line: &[u8], state: &mut [u8], answer: &mut [u8], strips: &mut [u8], roo
     }
     if begins(line, b"damage") {
         damage(line, state, answer, strips, rooms);
-        return;
-    }
-    if is_lower(line) {
-        lower(line);
         return;
     }
     with_bytes(line, state, answer, strips, rooms);
