@@ -1,44 +1,62 @@
 -- The laws of digits and of counting that specs/CounterLaws states: nine digits are a number below 10 ^ 9, and counting stays within the settings.
-use Prim.Native.Nat.{ℕ, _+_, _*_, _/_, _≤_, _<_}
+use Prim.Native.Nat.{ℕ, _+_, _*_, _/_, _%_, _≤_, _<_}
 use mathlib.Core.Bool.{true}
 use mathlib.Core.List.{List, [], _∷_}
 use mathlib.Core.Path.{_≡_, refl, sym, _∙_, ap}
-use native.Mathlib.Nat.{div-add-mod', div-eq-of-lt, div-one, div-div-eq-div-mul}
+use native.Mathlib.Nat.{div-add-mod', div-eq-of-lt, div-one, div-div-eq-div-mul, mod-lt}
 use native.Mathlib.Omega.{arith}
 use borrow.Author.Tests.{leb-true, ltb-true}
 use lib.Dec.{leb, ltb}
 use lib.ListN.{length, take, drop, length-take}
-use Rattle.frame.proofs.Ground.{true-both, pick-case}
-use Rattle.printer.specs.Number.{digit, digits, is-digit, value-from}
-use Rattle.printer.specs.Counter.{Counter, counted, counter-bytes, counter-of, final, good-settings, grown, initial, is-set, lot, moved, next-batch, next-value, set-to, step, valid-counter}
-use Rattle.printer.specs.CounterLaws.{AllBytes, CountSamples, CountStays, CounterSmall, CounterWhole, DigitsPrint, DigitsValue, SetValid, SettingsSmall}
-use Rattle.printer.proofs.ClockLaws.{digit-character}
-use Rattle.printer.proofs.Numbers.{Bytes, bytes-drop, bytes-take, digits-part, four-fit, three-fit, value-fits}
+use lib.Seq.{drop-at, take-at}
+use Rattle.content.specs.Byte.{all-characters, is-character}
+use Rattle.frame.proofs.Ground.{both-true, true-both, true-within, pick-case}
+use Rattle.printer.specs.Number.{all-digits, digit, digits, in-bytes, is-digit, number-of, value, value-from}
+use Rattle.printer.specs.Counter.{Counter, counted, counter-bytes, counter-of, counter-text, final, good-settings, grown, initial, is-set, lot, moved, next-batch, next-value, set-to, step, valid-counter}
+use Rattle.printer.specs.CounterLaws.{AllBytes, BytesValue, CountSamples, CountStays, CounterSmall, CounterTold, CounterWhole, DigitsPrint, DigitsValue, SetValid, SettingsSmall}
+use Rattle.printer.proofs.Numbers.{Bytes, bytes-drop, bytes-take, digits-part, four-fit, is-digit-true, number-in-bytes, three-fit, value-fits}
 use Rattle.printer.proofs.Counters.{Counting, counter-again, counter-back, good-tells, set-one, tells-valid, valid-tells}
 
 -- ---- Digits.
-pub digits-print : DigitsPrint
+digit-is-digit : (n : ℕ) → is-digit (n % 10 + 0x30) ≡ true
+unfolding is-digit
+digit-is-digit n = let h = mod-lt n {m = 10} (omega arith) in true-within 0x30 0x39 (n % 10 + 0x30) (omega arith) (omega arith)
+
+digits-are-digits : (n : ℕ) → all-digits (digits n) ≡ true
 unfolding digits
-digits-print n = (
-  true-both _ _ (digit-character _)
-      (true-both _ _ (digit-character _)
-      (true-both _ _ (digit-character _)
-      (true-both _ _ (digit-character _)
-      (true-both _ _ (digit-character _)
-      (true-both _ _ (digit-character _)
-      (true-both _ _ (digit-character _)
-      (true-both _ _ (digit-character _)
-      (true-both _ _ (digit-character _) refl)))))))),
-  refl,
-)
+digits-are-digits n =
+    true-both _ _ (digit-is-digit _)
+    (true-both _ _ (digit-is-digit _)
+    (true-both _ _ (digit-is-digit _)
+    (true-both _ _ (digit-is-digit _)
+    (true-both _ _ (digit-is-digit _)
+    (true-both _ _ (digit-is-digit _)
+    (true-both _ _ (digit-is-digit _)
+    (true-both _ _ (digit-is-digit _)
+    (true-both _ _ (digit-is-digit _) refl))))))))
+
+digits-are-characters : (s : List ℕ) → all-digits s ≡ true → all-characters s ≡ true
+unfolding is-character
+digits-are-characters [] e = refl
+digits-are-characters (b ∷ s) e =
+    let p = both-true (is-digit b) (all-digits s) e in
+    let d = is-digit-true b (p .0) in
+    true-both (is-character b) (all-characters s) (true-within 0x20 0x7E b (omega arith) (omega arith)) (digits-are-characters s (p .1))
+
+pub digits-nine : (n : ℕ) → length (digits n) ≡ 9
+unfolding digits
+digits-nine n = refl
+
+pub digits-print : DigitsPrint
+digits-print n = (digits-are-characters (digits n) (digits-are-digits n), digits-nine n)
 
 -- One more digit: what the digits before it come to, and it.
 digit-on : (n p : ℕ) (s : List ℕ) → value-from (n / (p * 10)) (digit n p ∷ s) ≡ value-from (n / p) s
 digit-on n p s = ap (λ (m : ℕ). value-from m s) (rw (← div-div-eq-div-mul n p 10) (omega (arith, div-add-mod' (n / p) 10)))
 
-pub digits-value : DigitsValue
+digits-come-to : (n : ℕ) → n < 1_000_000_000 → value (digits n) ≡ n
 unfolding digits
-digits-value n h =
+digits-come-to n h =
     let none : 0 ≡ n / 1_000_000_000 = sym (div-eq-of-lt h) in
     ap (λ (m : ℕ). value-from m (digits n)) none
     ∙ digit-on n 100_000_000 (drop 1 (digits n))
@@ -51,6 +69,22 @@ digits-value n h =
     ∙ digit-on n 10 (drop 8 (digits n))
     ∙ digit-on n 1 []
     ∙ div-one n
+
+pub digits-value : DigitsValue
+digits-value n = (below, digits-come-to n)
+  where
+    below : value (digits n) ≡ n → n < 1_000_000_000
+    below e = omega (arith, e, value-fits 9 (digits n) (omega (arith, digits-nine n)) (digits-are-digits n))
+
+pub bytes-value : BytesValue
+bytes-value n = (below, number-in-bytes 3 n)
+  where
+    below : number-of (in-bytes 3 n) ≡ n → n < 16_777_216
+    below e =
+        let a = mod-lt (n / 256 / 256) {m = 256} (omega arith) in
+        let b = mod-lt (n / 256) {m = 256} (omega arith) in
+        let c = mod-lt n {m = 256} (omega arith) in
+        omega (arith, e)
 
 -- ---- How large a counter can be.
 pub as-bytes : (s : List ℕ) → AllBytes s → Bytes s
@@ -73,6 +107,13 @@ counter-small c f v s =
     let k = valid-tells c v s in
     let small = settings-small (c .settings) f (k .good) in
     (omega (arith, k .most), omega (arith, k .below))
+
+pub counter-told : CounterTold
+counter-told c f v s =
+    let small = counter-small c f v s in
+    let front : take 9 (counter-text c) ≡ digits (c .value) = take-at (digits (c .value)) (in-bytes 3 (c .batch)) 9 (digits-nine (c .value)) in
+    let back : drop 9 (counter-text c) ≡ in-bytes 3 (c .batch) = drop-at (digits (c .value)) (in-bytes 3 (c .batch)) 9 (digits-nine (c .value)) in
+    (ap value front ∙ digits-value (c .value) .1 (small .0), ap number-of back ∙ bytes-value (c .batch) .1 (small .1))
 
 -- ---- Counting.
 pub set-valid : SetValid

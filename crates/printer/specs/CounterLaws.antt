@@ -2,19 +2,24 @@
 use Prim.Native.Nat.{ℕ, zero, suc, _<_}
 use mathlib.Core.Bool.{Bool, true}
 use mathlib.Core.List.{List, [], _∷_, _++_}
+use mathlib.Core.Logic.{_↔_}
 use mathlib.Core.Path.{_≡_}
-use lib.ListN.{length, getD}
+use lib.ListN.{length, getD, take, drop}
 use Rattle.content.specs.Byte.{all-characters}
-use Rattle.printer.specs.Number.{digits, value}
-use Rattle.printer.specs.Counter.{Counter, counted, counter-bytes, counter-of, counter-size, final, good-settings, initial, is-set, lot, set-to, step, valid-counter}
+use Rattle.printer.specs.Number.{digits, in-bytes, number-of, value}
+use Rattle.printer.specs.Counter.{Counter, batch-size, counted, counter-bytes, counter-of, counter-size, counter-text, final, good-settings, initial, is-set, lot, set-to, step, valid-counter}
 
 -- A counter prints as nine characters, whatever its value.
 abbrev pub DigitsPrint : Type 0
 DigitsPrint = (n : ℕ) → (all-characters (digits n) ≡ true) × (length (digits n) ≡ 9)
 
--- Below 1,000,000,000 the nine digits come to the number they were made of.
+-- The nine digits come to the number they were made of exactly where it is below 1,000,000,000, and three bytes exactly where it is
+-- below 2^24.
 abbrev pub DigitsValue : Type 0
-DigitsValue = (n : ℕ) → n < 1_000_000_000 → value (digits n) ≡ n
+DigitsValue = (n : ℕ) → (value (digits n) ≡ n) ↔ (n < 1_000_000_000)
+
+abbrev pub BytesValue : Type 0
+BytesValue = (n : ℕ) → (number-of (in-bytes batch-size n) ≡ n) ↔ (n < 16_777_216)
 
 -- Every entry of a list is a byte.
 abbrev pub AllBytes : List ℕ → Type 0
@@ -36,6 +41,15 @@ CounterSmall =
     valid-counter c ≡ true →
     is-set c ≡ true →
     (c .value < 1_000_000_000) × (c .batch < 16_777_216)
+
+-- 01, On the wire: 39h answers "9 digits, 3 batch bytes": read back, they are the value and the batch.
+abbrev pub CounterTold : Type 0
+CounterTold =
+    (c : Counter) →
+    AllBytes (c .settings) →
+    valid-counter c ≡ true →
+    is-set c ≡ true →
+    (value (take 9 (counter-text c)) ≡ c .value) × (number-of (drop 9 (counter-text c)) ≡ c .batch)
 
 -- 01, Parameters, counter, clock: "Accepting them sets the counter to initial and the batch to 0": which is a valid counter.
 abbrev pub SetValid : Type 0
