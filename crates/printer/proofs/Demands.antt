@@ -1,6 +1,6 @@
 -- The demands: each statement of specs/Demands, under its name in small letters, from the file that proves it.
 -- Demand 1.
-pub use Rattle.printer.proofs.Refusing.{bad-state, short-buffer, refused-stays}
+pub use Rattle.printer.proofs.Refusing.{bad-state, bad-state-elsewhere, short-buffer, refused-stays}
 -- Demand 2.
 pub use Rattle.printer.proofs.Accepting.{acknowledged-exactly, exact-effect, effect-kept, room-enough}
 pub use Rattle.printer.proofs.Building.{built-read-as-built}

@@ -11,9 +11,10 @@ use Rattle.frame.specs.Ground.{pick}
 use Rattle.frame.proofs.Ground.{pick-case, unless-tells, true-both, never}
 use Rattle.printer.specs.State.{valid-state, printer-of}
 use Rattle.printer.specs.Answer.{nack}
+use Rattle.printer.specs.Call.{set-clock, tick-clock}
 use Rattle.printer.specs.Receive.{Handed, Outcome, outcome, silent, answer-size, strips-size}
 use Rattle.printer.specs.OutcomeLaws.{Refuses}
-use Rattle.printer.specs.Demands.{Untouched, BadState, ShortBuffer, RefusedStays}
+use Rattle.printer.specs.Demands.{Untouched, BadState, BadStateElsewhere, ShortBuffer, RefusedStays}
 use Rattle.printer.proofs.OutcomeLaws.{refusal-keeps}
 
 pub bad-state : BadState
@@ -22,6 +23,15 @@ bad-state m h e = rw e (record { gets = refl; takes = refl; writes = refl; print
 
 silent-two : (m : List ℕ) → Untouched m (silent (printer-of m) 2) 2
 silent-two m = record { gets = refl; takes = refl; writes = refl; prints = refl; stays = refl }
+
+pub bad-state-elsewhere : BadStateElsewhere
+unfolding set-clock tick-clock
+bad-state-elsewhere m =
+    record {
+      clock-set = λ c r m′ v p. (p .number ∙ rw v, p .state ∙ rw v);
+      second-passes = λ r m′ v p. (p .number ∙ rw v, p .state ∙ rw v);
+      fresh = λ model c r m′ v p. (p .number ∙ rw v, p .state ∙ rw v);
+    }
 
 pub short-buffer : ShortBuffer
 unfolding outcome

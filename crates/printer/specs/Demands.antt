@@ -23,13 +23,13 @@ use Rattle.content.specs.declared.position.Mark.the-variants.{Structure}
 use Rattle.printer.specs.Clock.{clock-text, entries, table-text}
 use Rattle.printer.specs.Counter.{counter-text}
 use Rattle.printer.specs.Jet.{Jet, has-jet, has-message, message, parameters, with-message, with-parameters}
-use Rattle.printer.specs.State.{Printer, jet-at, printer-of, bytes-of, valid-state}
-use Rattle.printer.specs.Order.{Order, left, no-strips, jet-number, jet-in, with-jet-in}
+use Rattle.printer.specs.State.{Printer, jet-at, printer-of, bytes-of, state-size, valid-state}
+use Rattle.printer.specs.Order.{Obeys, Order, left, no-strips, jet-number, jet-in, with-jet-in}
 use Rattle.printer.specs.Answer.{ack, nack}
 use Rattle.printer.specs.Change.{parameters-in, address-in, edited-jet, update-fields, updated-head}
 use Rattle.printer.specs.Print.{ready, strips, values, counted-jets}
 use Rattle.printer.specs.Receive.{Handed, Outcome, outcome, kept, obeyed, order, refusal, answer-size, strips-size}
-use Rattle.printer.specs.Call.{fresh, fresh-tests, set-clock, tick-clock}
+use Rattle.printer.specs.Call.{Freshens, fresh, fresh-tests, set-clock, tick-clock}
 use Rattle.printer.specs.declared.clock.Clock.{Clock}
 
 -- ---- Calls.
@@ -65,6 +65,17 @@ pub record Untouched (m : List ℕ) (o : Outcome) (number : ℕ) : Type 0 where
 
 abbrev pub BadState : Type 0
 BadState = (m : List ℕ) (h : Handed) → valid-state m ≡ false → Untouched m (outcome m h) 1
+
+-- So it is where the clock is set and where a second passes: 1, and no byte changes; and a fresh printer wants bytes of a state's size.
+pub record OtherCalls (m : List ℕ) : Type 0 where
+  pub clock-set : (c : Clock) (r : ℕ) (m′ : List ℕ) → valid-state m ≡ false → Obeys (set-clock m c) m r m′ → (r ≡ 1) × (m′ ≡ m)
+  pub second-passes : (r : ℕ) (m′ : List ℕ) → valid-state m ≡ false → Obeys (tick-clock m) m r m′ → (r ≡ 1) × (m′ ≡ m)
+  pub fresh :
+      (model : ℕ) (c : Clock) (r : ℕ) (m′ : List ℕ) → eqb (length m) state-size ≡ false →
+      Freshens m model c r m′ → (r ≡ 1) × (m′ ≡ m)
+
+abbrev pub BadStateElsewhere : Type 0
+BadStateElsewhere = (m : List ℕ) → OtherCalls m
 
 abbrev pub ShortBuffer : Type 0
 ShortBuffer =
