@@ -24,5 +24,5 @@ calls-give-first =
       test = λ s r p. first-given (content-tests s) _ refl (p .answer);
       edit = λ before address symbols r after p. first-given (edit-tests before address symbols) _ refl (p .first);
       update = λ before text from r after p. first-given (update-tests text) _ refl (p .first);
-      put = λ v s before r after p. first-given (put-tests s (length before)) _ refl (p .first);
+      put = λ v s before r after p. first-given (put-tests s (length before)) _ refl (p .reports .first);
     }

@@ -10,6 +10,7 @@ use Rattle.content.specs.Content.{verdict, is-content, tested}
 use Rattle.content.specs.Position.{mark-of, marks}
 use Rattle.content.specs.Edit as edits
 use Rattle.content.specs.Update as updates
+use Rattle.frame.specs.Build as build
 use Rattle.content.specs.Strip as strips
 use Rattle.content.specs.declared.position.Mark.the-variants.{Structure, Character, FieldCharacter}
 use Rattle.content.specs.declared.strip.Values.{Values}
@@ -151,7 +152,7 @@ moment =
 strip-into : ℕ → List ℕ → ℕ × ℕ × List ℕ
 strip-into room s =
     let r = strips.stripped (strips.strip-tests moment s room) moment s in
-    (strips.number r, strips.strip-length r, strips.strip-bytes r moment s)
+    (build.number r, build.frame-length r, strips.strip-bytes r moment s)
 
 -- Numbers 0, 10 and 2, and 10 before 2: a byte less than the strip of 17 is too short.
 strips-hold :

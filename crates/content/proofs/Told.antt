@@ -4,17 +4,18 @@ use mathlib.Core.List.{List}
 use mathlib.Core.Path.{_≡_, refl, sym, _∙_, ap, subst}
 use lib.ListN.{drop, length}
 use Rattle.frame.specs.Ground.{Test, over}
+use Rattle.frame.specs.Build.{frame-length, number}
+use Rattle.frame.specs.declared.build.Built.{Built}
+use Rattle.frame.specs.declared.build.Built.the-variants.{Written}
 use Rattle.content.specs.Edit as edits
 use Rattle.content.specs.Update as updates
 use Rattle.content.specs.Position.{field-positions}
-use Rattle.content.specs.Strip.{Gives, number, refused, strip, strip-bytes, strip-length, stripped}
+use Rattle.content.specs.Strip.{Gives, refused, strip, strip-bytes, stripped}
 use Rattle.content.specs.declared.edit.Edited.{Edited}
 use Rattle.content.specs.declared.edit.Edited.the-variants.{Done}
 use Rattle.content.specs.declared.update.Updated.{Updated}
 use Rattle.content.specs.declared.update.Updated.the-variants.{Laid}
 use Rattle.content.specs.declared.strip.Values.{Values}
-use Rattle.content.specs.declared.strip.Stripped.{Stripped}
-use Rattle.content.specs.declared.strip.Stripped.the-variants.{Written}
 use Rattle.frame.proofs.Ground.{checked-case, checked-map}
 
 pub edit-told :
@@ -36,16 +37,19 @@ update-told s text from e f =
     }
 
 pub strip-told :
-    (tests : List Test) (v : Values) (s before : List ℕ) {r : Stripped} {after : List ℕ} → r ≡ stripped tests v s →
+    (tests : List Test) (v : Values) (s before : List ℕ) {r : Built} {after : List ℕ} → r ≡ stripped tests v s →
     after ≡ over (strip-bytes r v s) before → Gives tests v s before r after
 unfolding stripped
 strip-told tests v s before e f =
     record {
       answer = e;
-      first = ap number e ∙ checked-map number tests refused (Written (length (strip v s)));
-      size =
-          subst (λ (x : Stripped). strip-length x ≡ length (strip-bytes x v s)) (sym e)
-          (checked-case (λ (x : Stripped). strip-length x ≡ length (strip-bytes x v s)) tests refused (Written (length (strip v s)))
-          (λ t g. refl) (λ a. refl));
+      reports =
+          record {
+            first = ap number e ∙ checked-map number tests refused (Written (length (strip v s)));
+            size =
+                subst (λ (x : Built). frame-length x ≡ length (strip-bytes x v s)) (sym e)
+                (checked-case (λ (x : Built). frame-length x ≡ length (strip-bytes x v s)) tests refused (Written (length (strip v s)))
+                (λ t g. refl) (λ a. refl));
+          };
       buffer = f;
     }

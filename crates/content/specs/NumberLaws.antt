@@ -10,12 +10,12 @@ use Rattle.content.specs.Edit as edit
 use Rattle.content.specs.Edit.{Edits, edit-tests}
 use Rattle.content.specs.Update as update
 use Rattle.content.specs.Update.{Updates, update-tests}
-use Rattle.content.specs.Strip as strip
+use Rattle.frame.specs.Build as build
+use Rattle.frame.specs.declared.build.Built.{Built}
 use Rattle.content.specs.Strip.{Puts, put-tests}
 use Rattle.content.specs.declared.edit.Edited.{Edited}
 use Rattle.content.specs.declared.update.Updated.{Updated}
 use Rattle.content.specs.declared.strip.Values.{Values}
-use Rattle.content.specs.declared.strip.Stripped.{Stripped}
 
 -- 01, Numbers: "Checked in this order". `write_strip` alone asks 10 before 2: what is no content has no strip that could fit.
 pub record InOrder : Type 0 where
@@ -36,6 +36,6 @@ pub record CallsGiveFirst : Type 0 where
       Updates before text from r after →
       FirstGiven (update-tests text) (update.number r)
   pub put :
-      (v : Values) (s before : List ℕ) (r : Stripped) (after : List ℕ) →
+      (v : Values) (s before : List ℕ) (r : Built) (after : List ℕ) →
       Puts v s before r after →
-      FirstGiven (put-tests s (length before)) (strip.number r)
+      FirstGiven (put-tests s (length before)) (build.number r)

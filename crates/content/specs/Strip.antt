@@ -4,7 +4,10 @@ use mathlib.Core.List.{List, [], _∷_, _++_}
 use mathlib.Core.Path.{_≡_}
 use lib.Dec.{eqb, leb}
 use lib.ListN.{length, getD, take, drop}
-use Rattle.frame.specs.Ground.{Refusal, Test, checked, first-failing, over, pick, test}
+use Rattle.frame.specs.Ground.{Refusal, Test, checked, over, pick, test}
+use Rattle.frame.specs.Build.{Reports}
+use Rattle.frame.specs.declared.build.Built.{Built}
+use Rattle.frame.specs.declared.build.Built.the-variants.{Refused, Written}
 use Rattle.content.specs.Byte.{kind-of, code-of}
 use Rattle.content.specs.Machine.{Spot, Inside, Font, TabulationCount, TabulationEnd, CounterNumber, CounterEnd, Mode, Reading, Done, Bad, start, step}
 use Rattle.content.specs.Content.{is-content}
@@ -19,8 +22,6 @@ use Rattle.content.specs.declared.item.Item.the-variants as item
 use Rattle.content.specs.declared.item.Place.{Place}
 use Rattle.content.specs.declared.item.Place.the-variants as place
 use Rattle.content.specs.declared.strip.Values.{Values}
-use Rattle.content.specs.declared.strip.Stripped.{Stripped}
-use Rattle.content.specs.declared.strip.Stripped.the-variants.{Refused, Written}
 
 -- 01, What a content is: what each code of a date item stands for, with the bytes of the moment as they are handed in.
 abbrev pub character-in : List ℕ → Code → ℕ
@@ -115,37 +116,27 @@ strip-tests v s room = test (is-content s) 10 ∷ test (leb (length (strip v s))
 abbrev pub put-tests : List ℕ → ℕ → List Test
 put-tests s room = test (leb (3 * length s) room) 2 ∷ []
 
-abbrev pub refused : Refusal → Stripped
+-- The answer: the first test that fails, or the length of the strip.
+abbrev pub refused : Refusal → Built
 refused r = Refused (r .number)
 
--- The answer: the first test that fails, or the length of the strip.
-unfoldable pub stripped : List Test → Values → List ℕ → Stripped
+unfoldable pub stripped : List Test → Values → List ℕ → Built
 stripped tests v s = checked tests refused (Written (length (strip v s)))
 
-abbrev pub strip-bytes : Stripped → Values → List ℕ → List ℕ
+abbrev pub strip-bytes : Built → Values → List ℕ → List ℕ
 strip-bytes (Refused k) v s = []
 strip-bytes (Written n) v s = strip v s
 
--- 01, Numbers: the number of each case, and the length that is given back.
-abbrev pub number : Stripped → ℕ
-number (Refused k) = k
-number (Written n) = 0
-
-abbrev pub strip-length : Stripped → ℕ
-strip-length (Refused k) = 0
-strip-length (Written n) = n
-
 -- What is given back, and over the buffer's front just the strip that it tells of.
-pub record Gives (tests : List Test) (v : Values) (s before : List ℕ) (r : Stripped) (after : List ℕ) : Type 0 where
+pub record Gives (tests : List Test) (v : Values) (s before : List ℕ) (r : Built) (after : List ℕ) : Type 0 where
   pub answer : r ≡ stripped tests v s
-  pub first : number r ≡ first-failing tests
-  pub size : strip-length r ≡ length (strip-bytes r v s)
+  pub reports : Reports tests (strip-bytes r v s) r
   pub buffer : after ≡ over (strip-bytes r v s) before
 
 -- The contract of `write_strip`.
-abbrev pub Strips : Values → List ℕ → List ℕ → Stripped → List ℕ → Type 0
+abbrev pub Strips : Values → List ℕ → List ℕ → Built → List ℕ → Type 0
 Strips v s before r after = Gives (strip-tests v s (length before)) v s before r after
 
 -- The contract of `put_strip`, the same with its own test.
-abbrev pub Puts : Values → List ℕ → List ℕ → Stripped → List ℕ → Type 0
+abbrev pub Puts : Values → List ℕ → List ℕ → Built → List ℕ → Type 0
 Puts v s before r after = Gives (put-tests s (length before)) v s before r after

@@ -8,6 +8,7 @@ use crate::item::past;
 use crate::item::token_at;
 use crate::test::MESSAGE;
 use crate::test::is_content;
+use frame::build::Built;
 use frame::build::lay;
 ghost use Prim.Native.Nat.{_+_, _*_, _≤_};
 ghost use lib.ListN.{length};
@@ -19,13 +20,6 @@ ghost use Rattle.frame.specs.Ground.{over};
 pub struct Values {
     pub digits: [u8; 9],
     pub entries: [u8; 24],
-}
-
-pub enum Stripped {
-    // The number.
-    Refused(u8),
-    // The strip's length.
-    Written(usize),
 }
 
 // What a code of a date item stands for.
@@ -118,27 +112,27 @@ fn write(s: &[u8], values: Values, out: &mut [u8]) -> usize
 }
 
 // Writes the strip of any bytes over the front of a buffer of three times their length, which is room enough for every strip.
-pub fn put_strip(s: &[u8], values: Values, out: &mut [u8]) -> Stripped
+pub fn put_strip(s: &[u8], values: Values, out: &mut [u8]) -> Built
     ensures { λ r. ⌜ Puts values (now (s .entry)) (now (out .entry)) r (now (out .exit)) ⌝ }
 {
     if out.len() / 3 < s.len() {
-        return Stripped::Refused(2);
+        return Built::Refused(2);
     }
-    Stripped::Written(write(s, values, out))
+    Built::Written(write(s, values, out))
 }
 
 // Writes the strip of a content over the front of a buffer; what is no content or doesn't fit writes nothing.
-pub fn write_strip(s: &[u8], values: Values, out: &mut [u8]) -> Stripped
+pub fn write_strip(s: &[u8], values: Values, out: &mut [u8]) -> Built
     ensures { λ r. ⌜ Strips values (now (s .entry)) (now (out .entry)) r (now (out .exit)) ⌝ }
 {
     if !is_content(s) {
-        return Stripped::Refused(10);
+        return Built::Refused(10);
     }
     let mut whole = [0u8; 3 * MESSAGE];
     let n = write(s, values, &mut whole);
     if out.len() < n {
-        return Stripped::Refused(2);
+        return Built::Refused(2);
     }
     lay(out, &whole[0..n]);
-    Stripped::Written(n)
+    Built::Written(n)
 }

@@ -2,6 +2,7 @@
 use Prim.Native.Nat.{ℕ, _+_}
 use mathlib.Core.Bool.{Bool, true, false, _||_}
 use mathlib.Core.List.{List, [], _∷_, _++_}
+use mathlib.Core.Path.{_≡_}
 use lib.Dec.{eqb, leb}
 use lib.ListN.{length, drop}
 
@@ -72,3 +73,11 @@ has n (x ∷ xs) = eqb x n || has n xs
 -- A list laid over the front of a buffer; every byte behind it stays as it was.
 abbrev pub over : List ℕ → List ℕ → List ℕ
 over xs before = xs ++ drop (length xs) before
+
+-- 01, What the proofs owe us: "that no second outcome satisfies it is proved". Two answers that meet a contract are the same, and so are
+-- the bytes after them.
+abbrev pub OneAnswer : {A : Type 0} → (A → Type 0) → Type 0
+OneAnswer {A} C = (r r′ : A) → C r → C r′ → r ≡ r′
+
+abbrev pub OneOutcome : {A : Type 0} → (A → List ℕ → Type 0) → Type 0
+OneOutcome {A} C = (r r′ : A) (after after′ : List ℕ) → C r after → C r′ after′ → (r ≡ r′) × (after ≡ after′)

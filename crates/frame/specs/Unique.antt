@@ -1,44 +1,25 @@
 -- Every contract has one outcome: two that meet it for the same inputs have the same answer and the same bytes after.
 use Prim.Native.Nat.{ℕ}
-use mathlib.Core.Bool.{Bool}
 use mathlib.Core.List.{List}
-use mathlib.Core.Path.{_≡_}
+use Rattle.frame.specs.Ground.{OneAnswer, OneOutcome}
 use Rattle.frame.specs.Wire.{Words}
 use Rattle.frame.specs.Receive.{Receives}
 use Rattle.frame.specs.Build.{Lays, Wraps, Answers, Builds}
-use Rattle.frame.specs.declared.receive.Received.{Received}
-use Rattle.frame.specs.declared.build.Built.{Built}
 
 abbrev pub WordsUnique : Type 0
-WordsUnique = (high low r r′ : ℕ) → Words high low r → Words high low r′ → r ≡ r′
+WordsUnique = (high low : ℕ) → OneAnswer (Words high low)
 
 abbrev pub ReceivesUnique : Type 0
-ReceivesUnique = (s : List ℕ) (r r′ : Received) → Receives s r → Receives s r′ → r ≡ r′
+ReceivesUnique = (s : List ℕ) → OneAnswer (Receives s)
 
 abbrev pub LaysUnique : Type 0
-LaysUnique =
-    (before bytes : List ℕ) (r r′ : Bool) (after after′ : List ℕ) →
-    Lays before bytes r after →
-    Lays before bytes r′ after′ →
-    (r ≡ r′) × (after ≡ after′)
+LaysUnique = (before bytes : List ℕ) → OneOutcome (Lays before bytes)
 
 abbrev pub WrapsUnique : Type 0
-WrapsUnique =
-    (before : List ℕ) (identifier n : ℕ) (r r′ : Built) (after after′ : List ℕ) →
-    Wraps before identifier n r after →
-    Wraps before identifier n r′ after′ →
-    (r ≡ r′) × (after ≡ after′)
+WrapsUnique = (before : List ℕ) (identifier n : ℕ) → OneOutcome (Wraps before identifier n)
 
 abbrev pub AnswersUnique : Type 0
-AnswersUnique =
-    (before : List ℕ) (identifier : ℕ) (d : List ℕ) (r r′ : Built) (after after′ : List ℕ) →
-    Answers before identifier d r after →
-    Answers before identifier d r′ after′ →
-    (r ≡ r′) × (after ≡ after′)
+AnswersUnique = (before : List ℕ) (identifier : ℕ) (d : List ℕ) → OneOutcome (Answers before identifier d)
 
 abbrev pub BuildsUnique : Type 0
-BuildsUnique =
-    (before : List ℕ) (identifier : ℕ) (d : List ℕ) (r r′ : Built) (after after′ : List ℕ) →
-    Builds before identifier d r after →
-    Builds before identifier d r′ after′ →
-    (r ≡ r′) × (after ≡ after′)
+BuildsUnique = (before : List ℕ) (identifier : ℕ) (d : List ℕ) → OneOutcome (Builds before identifier d)

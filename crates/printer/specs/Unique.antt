@@ -3,6 +3,7 @@ use Prim.Native.Nat.{ℕ}
 use mathlib.Core.Bool.{Bool}
 use mathlib.Core.List.{List}
 use mathlib.Core.Path.{_≡_}
+use Rattle.frame.specs.Ground.{OneAnswer, OneOutcome}
 use Rattle.printer.specs.Clock.{is-real, tick}
 use Rattle.printer.specs.Order.{Order, Obeys}
 use Rattle.printer.specs.Receive.{Receives}
@@ -12,34 +13,24 @@ use Rattle.printer.specs.declared.answer.Answered.{Answered}
 
 -- `fresh`.
 abbrev pub FreshensUnique : Type 0
-FreshensUnique =
-    (m : List ℕ) (model : ℕ) (clock : Clock) (r r′ : ℕ) (m′ m″ : List ℕ) →
-    Freshens m model clock r m′ →
-    Freshens m model clock r′ m″ →
-    (r ≡ r′) × (m′ ≡ m″)
+FreshensUnique = (m : List ℕ) (model : ℕ) (clock : Clock) → OneOutcome (Freshens m model clock)
 
 -- `set_clock` and `tick` are the orders `set-clock` and `tick-clock`, and of every order this is true.
 abbrev pub ObeysUnique : Type 0
-ObeysUnique =
-    (o : Order) (m : List ℕ) (r r′ : ℕ) (m′ m″ : List ℕ) → Obeys o m r m′ → Obeys o m r′ m″ → (r ≡ r′) × (m′ ≡ m″)
+ObeysUnique = (o : Order) (m : List ℕ) → OneOutcome (Obeys o m)
 
 abbrev pub SetClockUnique : Type 0
-SetClockUnique =
-    (m : List ℕ) (clock : Clock) (r r′ : ℕ) (m′ m″ : List ℕ) →
-    Obeys (set-clock m clock) m r m′ →
-    Obeys (set-clock m clock) m r′ m″ →
-    (r ≡ r′) × (m′ ≡ m″)
+SetClockUnique = (m : List ℕ) (clock : Clock) → OneOutcome (Obeys (set-clock m clock) m)
 
 abbrev pub TickUnique : Type 0
-TickUnique =
-    (m : List ℕ) (r r′ : ℕ) (m′ m″ : List ℕ) → Obeys (tick-clock m) m r m′ → Obeys (tick-clock m) m r′ m″ → (r ≡ r′) × (m′ ≡ m″)
+TickUnique = (m : List ℕ) → OneOutcome (Obeys (tick-clock m) m)
 
 -- `Clock::is_real` and `Clock::tick` hand back what the rule says, and touch no bytes.
 abbrev pub ClockIsRealUnique : Type 0
-ClockIsRealUnique = (c : Clock) (r r′ : Bool) → r ≡ is-real c → r′ ≡ is-real c → r ≡ r′
+ClockIsRealUnique = (c : Clock) → OneAnswer (λ (r : Bool). r ≡ is-real c)
 
 abbrev pub ClockTickUnique : Type 0
-ClockTickUnique = (c r r′ : Clock) → r ≡ tick c → r′ ≡ tick c → r ≡ r′
+ClockTickUnique = (c : Clock) → OneAnswer (λ (r : Clock). r ≡ tick c)
 
 -- `receive`: number, count, answer's length and strips' lengths are one answer; then the bytes of the state and of the two buffers.
 abbrev pub ReceivesUnique : Type 0

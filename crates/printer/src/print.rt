@@ -11,9 +11,9 @@ use crate::number::digits;
 use crate::state::JETS;
 use crate::state::clock;
 use crate::state::ready;
-use content::strip::Stripped;
 use content::strip::Values;
 use content::strip::put_strip;
+use frame::build::Built;
 ghost use Prim.Native.Nat.{_≤_, _*_};
 ghost use lib.ListN.{length};
 ghost use mathlib.Core.Bool.{true};
@@ -44,8 +44,8 @@ fn print_jet(entries: [u8; 24], jet: &[u8], out: &mut [u8]) -> usize
 {
     let written = put_strip(message(jet), values(entries, jet), out);
     match written {
-        Stripped::Written(k) => k,
-        Stripped::Refused(_) => 0,
+        Built::Written(k) => k,
+        Built::Refused(_) => 0,
     }
 }
 

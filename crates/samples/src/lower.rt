@@ -8,7 +8,6 @@ use crate::show::unwritten;
 use content::edit::Edited;
 use content::edit::edit;
 use content::position::field_positions;
-use content::strip::Stripped;
 use content::strip::Values;
 use content::strip::put_strip;
 use content::strip::write_strip;
@@ -98,20 +97,13 @@ fn values() -> Values {
     }
 }
 
-fn show_stripped(out: &[u8], stripped: Stripped) {
-    match stripped {
-        Stripped::Refused(number) => show_refused(out, number),
-        Stripped::Written(n) => show_written(out, n),
-    }
-}
-
 // The strip of a content.
 pub(crate) fn show_strip(out: &mut [u8], room: usize, s: &[u8]) {
     if out.len() < room {
         return;
     }
     let stripped = write_strip(s, values(), &mut out[0..room]);
-    show_stripped(out, stripped);
+    show_built(out, stripped);
 }
 
 // The strip of any bytes, as far as they can be read, into a buffer of three times their length.
@@ -120,7 +112,7 @@ pub(crate) fn show_put(out: &mut [u8], room: usize, s: &[u8]) {
         return;
     }
     let stripped = put_strip(s, values(), &mut out[0..room]);
-    show_stripped(out, stripped);
+    show_built(out, stripped);
 }
 
 // How many field positions there are.

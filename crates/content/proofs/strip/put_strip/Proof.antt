@@ -8,7 +8,7 @@ use borrow.Author.Tests.{lt-leb, le-leb}
 use lib.ListN.{length}
 use Rattle.frame.specs.Ground.{over}
 use Rattle.content.specs.Strip.{Puts, put-tests, strip, stripped}
-use Rattle.content.specs.declared.strip.Stripped.the-variants.{Refused, Written}
+use Rattle.frame.specs.declared.build.Built.the-variants.{Refused, Written}
 use Rattle.content.specs.declared.strip.Values.{Values}
 use Rattle.content.proofs.Room.{strip-fits}
 use Rattle.content.proofs.Told.{strip-told}

@@ -14,7 +14,7 @@ use Rattle.frame.specs.Build.{Lays}
 use Rattle.frame.specs.Ground.{over, pick}
 use Rattle.content.specs.Content.{is-content, is-good, longest-message, verdict}
 use Rattle.content.specs.Strip.{Strips, strip, strip-tests, stripped}
-use Rattle.content.specs.declared.strip.Stripped.the-variants.{Refused, Written}
+use Rattle.frame.specs.declared.build.Built.the-variants.{Refused, Written}
 use Rattle.content.specs.declared.strip.Values.{Values}
 use Rattle.frame.proofs.Ground.{both-true}
 use Rattle.content.proofs.Room.{strip-fits}

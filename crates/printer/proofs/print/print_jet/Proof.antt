@@ -7,8 +7,8 @@ use borrow.Author.Needs.{needs}
 use borrow.Author.Tests.{le-leb}
 use lib.ListN.{length, length-take}
 use Rattle.content.specs.Strip.{Puts, stripped}
-use Rattle.content.specs.declared.strip.Stripped.{Stripped}
-use Rattle.content.specs.declared.strip.Stripped.the-variants.{Refused, Written}
+use Rattle.frame.specs.declared.build.Built.{Built}
+use Rattle.frame.specs.declared.build.Built.the-variants.{Refused, Written}
 use Rattle.content.specs.declared.strip.Values.{Values}
 use Rattle.content.proofs.Room.{strip-fits}
 use Rattle.printer.specs.Jet.{Jet, jet-of, message}
@@ -21,7 +21,7 @@ nine : (n : ℕ) → length (digits n) ≡ 9
 unfolding digits
 nine n = refl
 
-module _ (es : List ℕ) (j : Jet) {v : Values} {s before after : List ℕ} {r : Stripped} (e : v ≡ values es j) (q : s ≡ message j) (h : j .length ≤ 512) (room : 1536 ≤ length before) (p : Puts v s before r after) where
+module _ (es : List ℕ) (j : Jet) {v : Values} {s before after : List ℕ} {r : Built} (e : v ≡ values es j) (q : s ≡ message j) (h : j .length ≤ 512) (room : 1536 ≤ length before) (p : Puts v s before r after) where
   short : length (message j) ≤ 512
   short = omega (arith, length-take (j .length) (j .content))
 
