@@ -1,13 +1,11 @@
 -- Why a walk never stalls: whatever is received of bytes that are there, but for what waits for more, consumes one at least.
 use Prim.Native.Nat.{ℕ, _+_, _<_, _≤_}
-use mathlib.Core.Bool.{Bool, true, false}
+use mathlib.Core.Bool.{true}
 use mathlib.Core.List.{List}
 use mathlib.Core.Path.{_≡_, refl, subst, sym}
 use native.Mathlib.Omega.{arith}
-use borrow.Author.Tests.{ltb-false, eqb-false}
 use lib.Dec.{eqb, ltb}
 use lib.ListN.{length, getD, take, drop, length-drop}
-use Rattle.frame.specs.Ground.{Refusal, Test}
 use Rattle.frame.specs.Wire.{enquiry, update-opens, update-closes, check, size-of, listed, fits, longest-update, update-marks, head-size, around, longest-data}
 use Rattle.frame.specs.Receive.{received, updated, framed, judged, run, text-space, data-length}
 use Rattle.frame.specs.declared.receive.Received.{Received}

@@ -8,7 +8,7 @@ use native.Mathlib.Omega.{arith}
 use borrow.Rule.Slice.PartMut.{midOf}
 use borrow.Author.Tests.{eq-eqb, ne-eqb, le-ltb, eqb-true}
 use lib.Dec.{eqb}
-use lib.ListN.{length, take, drop, length-append, length-drop}
+use lib.ListN.{length, take, drop, length-drop}
 use lib.Seq.{take-append-seam, take-all}
 use Rattle.line.specs.Line.{line, lined, bytes-of, Writes}
 use Rattle.line.specs.declared.Lined.{Lined}
@@ -17,7 +17,7 @@ use Rattle.line.proofs.Laws.{length-line, most-digits, front-fits}
 use Rattle.printer.specs.Clock.{date, moment}
 use Rattle.printer.specs.State.{state-size}
 use Rattle.printer.specs.Call.{Freshens}
-use Rattle.printer.specs.Receive.{Outcome, Meets, Receives, outcome, kept, answer-size}
+use Rattle.printer.specs.Receive.{Outcome, Meets, Receives, outcome, kept}
 use Rattle.printer.specs.Demands.{Call, hand-in, after, after-all, full}
 use Rattle.printer.specs.declared.answer.Answered.{Answered}
 use Rattle.printer.proofs.Accepting.{room-enough}
@@ -25,7 +25,6 @@ use Rattle.printer.proofs.OutcomeLaws.{answer-fits, consumes-handed-in}
 use Rattle.console.specs.Console.{line-of, line-size, next, start-state, Walks, begins, goes-on, Starts, Turns, Runs}
 use Rattle.console.specs.declared.Turn.{Turn}
 use Rattle.console.proofs.Consuming.{next-takes}
-use Rattle.console.specs.declared.Ran.{Ran}
 
 -- ---- The start.
 pub starts : (m : List ℕ) (r : ℕ) (m′ : List ℕ) → Freshens m 1 (moment 58 59 23 (date 29 2 24)) r m′ → Starts m m′

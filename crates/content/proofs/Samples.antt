@@ -152,7 +152,7 @@ moment =
 strip-into : ℕ → List ℕ → ℕ × ℕ × List ℕ
 strip-into room s =
     let r = strips.stripped (strips.strip-tests moment s room) moment s in
-    (build.number r, build.frame-length r, strips.strip-bytes r moment s)
+    (build.number r, build.length-given r, strips.strip-bytes r moment s)
 
 -- Numbers 0, 10 and 2, and 10 before 2: a byte less than the strip of 17 is too short.
 strips-hold :

@@ -4,7 +4,7 @@ use mathlib.Core.List.{List}
 use mathlib.Core.Path.{_≡_, refl, sym, _∙_, ap, subst}
 use lib.ListN.{drop, length}
 use Rattle.frame.specs.Ground.{Test, over}
-use Rattle.frame.specs.Build.{frame-length, number}
+use Rattle.frame.specs.Build.{length-given, number}
 use Rattle.frame.specs.declared.build.Built.{Built}
 use Rattle.frame.specs.declared.build.Built.the-variants.{Written}
 use Rattle.content.specs.Edit as edits
@@ -47,8 +47,8 @@ strip-told tests v s before e f =
           record {
             first = ap number e ∙ checked-map number tests refused (Written (length (strip v s)));
             size =
-                subst (λ (x : Built). frame-length x ≡ length (strip-bytes x v s)) (sym e)
-                (checked-case (λ (x : Built). frame-length x ≡ length (strip-bytes x v s)) tests refused (Written (length (strip v s)))
+                subst (λ (x : Built). length-given x ≡ length (strip-bytes x v s)) (sym e)
+                (checked-case (λ (x : Built). length-given x ≡ length (strip-bytes x v s)) tests refused (Written (length (strip v s)))
                 (λ t g. refl) (λ a. refl));
           };
       buffer = f;

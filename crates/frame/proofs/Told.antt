@@ -9,8 +9,7 @@ use lib.ListN.{length, take, drop, length-append, length-drop}
 use lib.Seq.{length-take-le}
 use Rattle.frame.specs.Ground.{Refusal, Test, all, over}
 use Rattle.frame.specs.Wire.{check, head-size, around, longest-data}
-use Rattle.frame.specs.Build.{frame, body, decided, answered, bytes-of, number, Reports, Wraps}
-use Rattle.frame.specs.Build as rules
+use Rattle.frame.specs.Build.{frame, body, decided, answered, bytes-of, length-given, number, Reports, Wraps}
 use Rattle.frame.specs.declared.build.Built.{Built}
 use Rattle.frame.specs.declared.build.Built.the-variants.{Refused, Written}
 use Rattle.frame.proofs.Ground.{checked-all, checked-refuses, checked-case, checked-map}
@@ -27,8 +26,8 @@ reported tests n identifier d r e h =
     record {
       first = ap number e ∙ checked-map number tests refused (Written (n + around));
       size =
-          subst (λ (x : Built). rules.frame-length x ≡ length (bytes-of x identifier d)) (sym e)
-          (checked-case (λ (x : Built). rules.frame-length x ≡ length (bytes-of x identifier d)) tests refused (Written (n + around))
+          subst (λ (x : Built). length-given x ≡ length (bytes-of x identifier d)) (sym e)
+          (checked-case (λ (x : Built). length-given x ≡ length (bytes-of x identifier d)) tests refused (Written (n + around))
           (λ t f. refl)
           (λ a. sym (frame-length identifier d ∙ ap (λ (k : ℕ). k + around) (h a))));
     }

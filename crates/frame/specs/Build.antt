@@ -54,14 +54,14 @@ abbrev pub number : Built → ℕ
 number (Refused k) = k
 number (Written n) = 0
 
-abbrev pub frame-length : Built → ℕ
-frame-length (Refused k) = 0
-frame-length (Written n) = n
+abbrev pub length-given : Built → ℕ
+length-given (Refused k) = 0
+length-given (Written n) = n
 
 -- 01, Numbers: "the first that applies is given"; 01, Other calls: "else its length", of just the bytes that are written.
 pub record Reports (tests : List Test) (bytes : List ℕ) (r : Built) : Type 0 where
   pub first : number r ≡ first-failing tests
-  pub size : frame-length r ≡ length bytes
+  pub size : length-given r ≡ length bytes
 
 -- The contract of `lay`: bytes that fit are laid over the front, others leave the buffer alone.
 pub record Lays (before bytes : List ℕ) (r : Bool) (after : List ℕ) : Type 0 where

@@ -1,15 +1,15 @@
 -- Demand 2: what is handed in is acknowledged exactly where it passes, and has then the written effect: an order is refused at its tests
 -- and at nothing else, and the table has no identifier beside those of the rules.
-use Prim.Native.Nat.{ℕ, _≤_}
+use Prim.Native.Nat.{ℕ}
 use mathlib.Core.Bool.{Bool, true, false}
 use mathlib.Core.List.{List, [], _∷_}
 use mathlib.Core.Logic.{_↔_}
-use mathlib.Core.Path.{_≡_, refl, sym, _∙_, ap, subst}
+use mathlib.Core.Path.{_≡_, refl, sym, ap, subst}
 use native.Mathlib.Omega.{arith}
 use borrow.Author.Tests.{le-leb, leb-true, eqb-true, eq-eqb}
 use lib.Dec.{eqb, leb}
 use lib.ListN.{take, drop}
-use Rattle.frame.specs.Ground.{Test, Refusal, both, unless, checked, all, pick}
+use Rattle.frame.specs.Ground.{Test, Refusal, both, unless, checked, all}
 use Rattle.frame.specs.Wire.{size-of, fits}
 use Rattle.frame.specs.Receive.{received}
 use Rattle.frame.specs.declared.wire.Size.{Size}
@@ -17,12 +17,12 @@ use Rattle.frame.specs.declared.receive.Received.{Received}
 use Rattle.frame.specs.declared.receive.Received.the-variants.{Partial, Refused, Misfit, Enquiry, Update, Frame}
 use Rattle.frame.proofs.Ground.{pick-case, both-true, never}
 use Rattle.frame.proofs.Heard.{Sound, sound}
-use Rattle.printer.specs.State.{Printer, valid-state, printer-of, bytes-of}
+use Rattle.printer.specs.State.{Printer, valid-state, printer-of}
 use Rattle.printer.specs.Order.{Order, no-strips}
 use Rattle.printer.specs.Change.{set-message, set-parameters, set-both, edit-message, update-fields, updated-head}
 use Rattle.printer.specs.Request.{ask-counter, ask-message, ask-table, ask-clock}
 use Rattle.printer.specs.Print.{print}
-use Rattle.printer.specs.Receive.{Handed, Outcome, outcome, handled, obeyed, order, enquire, kept, refusal, done, answer-size, strips-size}
+use Rattle.printer.specs.Receive.{Outcome, outcome, handled, obeyed, order, enquire, refusal, done, answer-size, strips-size}
 use Rattle.printer.specs.OrderLaws.{numbered}
 use Rattle.printer.specs.Demands.{full, passes, printer-after, frame-after, strips-after, Effect, HasEffect, AcknowledgedExactly, ExactEffect, EffectKept, RoomEnough}
 use Rattle.printer.proofs.OrderLaws.{orders-numbered}

@@ -2,25 +2,23 @@
 use Prim.Native.Nat.{ℕ, _+_, _≤_}
 use mathlib.Core.Bool.{Bool, true, false}
 use mathlib.Core.List.{List, [], _∷_, _++_}
-use mathlib.Core.Path.{_≡_, refl, sym, _∙_, ap, subst}
+use mathlib.Core.Path.{_≡_, refl, _∙_, ap}
 use native.Mathlib.Omega.{arith}
-use lib.Dec.{leb}
 use lib.ListN.{length, take, drop}
-use Rattle.frame.specs.Ground.{Test, Refusal, pick, both, within, unless, checked}
+use Rattle.frame.specs.Ground.{Test, Refusal, pick, both, within, checked}
 use Rattle.frame.specs.Wire.{size-of, fits}
 use Rattle.frame.specs.Receive.{received}
-use Rattle.frame.specs.Laws.{ReadsBack, Heard, heard, heard-in}
-use Rattle.frame.specs.declared.receive.Received.{Received}
+use Rattle.frame.specs.Laws.{ReadsBack, heard, heard-in}
 use Rattle.frame.specs.declared.receive.Received.the-variants.{Misfit, Frame}
-use Rattle.frame.proofs.Ground.{both-true, unless-case, within-true, pick-case}
+use Rattle.frame.proofs.Ground.{both-true, unless-case, within-true}
 use Rattle.frame.proofs.Laws.{built-read-back}
-use Rattle.printer.specs.State.{Printer, valid-state, printer-of}
+use Rattle.printer.specs.State.{Printer, printer-of}
 use Rattle.printer.specs.Order.{Order}
 use Rattle.printer.specs.Change.{set-message, set-parameters, set-both, edit-message}
 use Rattle.printer.specs.Request.{ask-counter, ask-message, ask-table, ask-clock}
 use Rattle.printer.specs.Print.{print}
 use Rattle.printer.specs.Receive.{Outcome, outcome, handled, obeyed, order, refusal, done}
-use Rattle.printer.specs.Demands.{full, ReadAsBuilt, BuiltReadAsBuilt}
+use Rattle.printer.specs.Demands.{full, BuiltReadAsBuilt}
 use Rattle.printer.proofs.OrderLaws.{order-case}
 use Rattle.printer.proofs.Accepting.{valid-handled}
 

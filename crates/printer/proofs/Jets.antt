@@ -6,7 +6,6 @@ use mathlib.Core.Path.{_≡_, refl, sym, _∙_, ap}
 use native.Mathlib.Omega.{arith}
 use borrow.Author.Tests.{le-leb}
 use borrow.Rule.Slice.PartMut.{midOf, putMid, put-same}
-use lib.Dec.{eqb}
 use lib.ListN.{length, getD, take, drop, set, length-append, length-take, length-drop, take-append-drop, drop-of-length-le}
 use lib.Seq.{length-take-le, drop-drop, take-add, take-at, take-all, take-take, drop-append-le, getD-take, getD-drop}
 use Rattle.frame.specs.Ground.{Test, all, checked, first-failing, over, pick}

@@ -5,16 +5,12 @@ use mathlib.Core.List.{List, [], _∷_, _++_, append-assoc, append-nil, map}
 use mathlib.Core.Path.{_≡_, refl, sym, _∙_, ap, ap₂}
 use native.Mathlib.Nat.{mul-suc, not-suc-le-zero, le-of-suc-le-suc}
 use native.Mathlib.Omega.{arith}
-use mir.Syntax.{w8}
-use mir.Val.{Fits}
-use borrow.Author.Tests.{ltb-true, ltb-false}
 use borrow.Rule.Slice.PartMut.{midOf, putMid, mid-len}
-use lib.Dec.{ltb}
-use lib.ListN.{length, getD, replicate, length-replicate, replicate-append-replicate, set, take, drop, length-drop, length-take, take-append-drop, List·getD-eq-default, drop-of-length-le}
-use lib.Seq.{drop-drop, take-add, getD-take, getD-drop, set-at, append-snoc, take-at, drop-at}
+use lib.ListN.{length, getD, replicate, length-replicate, replicate-append-replicate, set, take, drop, length-drop, length-take, take-append-drop, drop-of-length-le}
+use lib.Seq.{drop-drop, take-add, set-at, append-snoc, take-at, drop-at}
 use Rattle.frame.specs.Ground.{both, joined, every}
 use Rattle.frame.proofs.Ground.{drop-next}
-use Rattle.printer.specs.Counter.{counter-size, counter-of, counter-bytes}
+use Rattle.printer.specs.Counter.{counter-of}
 use Rattle.printer.specs.Jet.{Jet, has-jet, jet-size, jet-of, jet-bytes}
 use Rattle.printer.specs.State.{state-size, jet-at, with-jet, with-clock, jets-of, jet-place, empty-jet, fresh-printer, clock-of, clock-bytes, printer-of, bytes-of}
 use Rattle.printer.specs.declared.clock.Clock.{Clock}

@@ -13,7 +13,6 @@ use Rattle.frame.proofs.Ground.{never, both-true, pick-case, checked-all, check
 use Rattle.content.specs.Byte.{is-character, all-characters}
 use Rattle.content.specs.Content.{is-content}
 use Rattle.content.specs.Machine.{start}
-use Rattle.content.specs.Position.{marks}
 use Rattle.content.specs.Edit.{edit-tests, edited, refused, replaced}
 use Rattle.content.specs.Update.{laid}
 use Rattle.content.specs.declared.edit.Edited.the-variants.{Done}

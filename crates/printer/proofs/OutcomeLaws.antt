@@ -1,14 +1,14 @@
 -- What document 01 promises of every outcome, read off the three kinds that there are.
 use Prim.Native.Nat.{ℕ, zero, suc, _+_, _-_, _*_, _≤_}
-use mathlib.Core.Bool.{Bool, true, false}
+use mathlib.Core.Bool.{true}
 use mathlib.Core.List.{List, [], _∷_, _++_, append-assoc, map}
-use mathlib.Core.Path.{_≡_, refl, sym, _∙_, ap}
+use mathlib.Core.Path.{_≡_, refl, _∙_, ap}
 use native.Mathlib.Omega.{arith}
 use borrow.Author.Tests.{ne-eqb}
-use lib.Dec.{eqb, leb}
+use lib.Dec.{leb}
 use lib.ListN.{length, getD, take, drop, length-append, length-take}
 use lib.Seq.{take-at, drop-append-add}
-use Rattle.frame.specs.Ground.{pick, unless, checked, joined, Refusal, Test, all}
+use Rattle.frame.specs.Ground.{checked, joined, Refusal, Test}
 use Rattle.frame.specs.Build.{frame}
 use Rattle.frame.specs.Receive.{received, consumed}
 use Rattle.frame.specs.declared.receive.Received.{Received}
@@ -17,16 +17,16 @@ use Rattle.frame.proofs.Ground.{unless-case, unless-tells}
 use Rattle.frame.proofs.Told.{frame-length}
 use Rattle.frame.proofs.Laws.{consumed-inside}
 use Rattle.printer.specs.Clock.{clock-text, table-text, month-entry, months, two}
-use Rattle.printer.specs.Number.{digits, in-bytes}
+use Rattle.printer.specs.Number.{digits}
 use Rattle.printer.specs.Counter.{counter-of}
 use Rattle.printer.specs.Jet.{Jet, message, parameters, jet-size, jet-of}
 use Rattle.printer.specs.State.{Printer, empty-jet, jet-at, jets-of, valid-state, printer-of}
 use Rattle.printer.specs.Order.{Order, jet-number}
-use Rattle.printer.specs.Answer.{ack, nack}
+use Rattle.printer.specs.Answer.{ack}
 use Rattle.printer.specs.Change.{set-message, set-parameters, set-both, edit-message, update-fields}
 use Rattle.printer.specs.Request.{ask-counter, ask-message, ask-table, ask-clock}
 use Rattle.printer.specs.Print.{print}
-use Rattle.printer.specs.Receive.{Handed, Outcome, outcome, handled, obeyed, order, enquire, kept, silent, refusal, done, answer-size, strips-size, Meets}
+use Rattle.printer.specs.Receive.{Outcome, outcome, handled, obeyed, order, enquire, kept, refusal, done, answer-size, strips-size, Meets}
 use Rattle.printer.specs.OutcomeLaws.{Refuses, RefusalKeeps, ConsumesHandedIn, AcceptedAnswers, AnswerFits, total, Finds, LengthsTell}
 use Rattle.printer.specs.declared.answer.Answered.{Answered}
 use Rattle.printer.proofs.Outcomes.{Kind, silence, refused, accepted, outcome-kind}

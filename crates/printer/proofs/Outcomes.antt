@@ -7,8 +7,8 @@ use mathlib.Core.Path.{_≡_, refl}
 use native.Mathlib.Omega.{arith}
 use borrow.Author.Tests.{leb-true}
 use lib.Dec.{leb}
-use lib.ListN.{length, take, drop}
-use Rattle.frame.specs.Ground.{Refusal, Test, unless, both, checked}
+use lib.ListN.{take, drop}
+use Rattle.frame.specs.Ground.{Refusal, Test, checked}
 use Rattle.frame.specs.Receive.{received, consumed}
 use Rattle.frame.specs.declared.receive.Received.{Received}
 use Rattle.frame.specs.declared.receive.Received.the-variants.{Partial, Refused, Misfit, Enquiry, Update, Frame}

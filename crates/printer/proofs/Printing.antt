@@ -3,10 +3,9 @@
 use Prim.Native.Nat.{ℕ}
 use mathlib.Core.Bool.{true}
 use mathlib.Core.List.{List, []}
-use mathlib.Core.Path.{_≡_, refl, sym, _∙_, ap}
+use mathlib.Core.Path.{_≡_, refl, _∙_, ap}
 use native.Mathlib.Omega.{arith}
-use lib.ListN.{length}
-use Rattle.frame.specs.Ground.{pick, unless}
+use Rattle.frame.specs.Ground.{pick}
 use Rattle.frame.specs.Wire.{size-of}
 use Rattle.frame.specs.Build.{frame}
 use Rattle.frame.specs.Receive.{received}

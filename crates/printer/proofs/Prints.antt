@@ -9,7 +9,7 @@ use borrow.Rule.Slice.PartMut.{midOf, putMid}
 use lib.ListN.{length, getD, set, take, drop, replicate, length-append, length-map, drop-of-length-le}
 use lib.Seq.{drop-drop, take-at, drop-at, take-length}
 use Rattle.frame.specs.Ground.{each, joined, over}
-use Rattle.frame.proofs.Ground.{copied-more, copied-all, length-each}
+use Rattle.frame.proofs.Ground.{copied-more, copied-all}
 use Rattle.frame.proofs.Lent.{Laid, laid-more}
 use Rattle.printer.specs.Clock.{entries}
 use Rattle.printer.specs.Jet.{jet-size, jet-of, jet-bytes, counted-jet}

@@ -1,7 +1,6 @@
 -- Demand 1: the rule tests the state first and then the buffers, each before it reads a byte, and of every other refusal the law of
 -- outcomes says what stays and what is answered.
 use Prim.Native.Nat.{ℕ}
-use mathlib.Core.Bool.{true, false}
 use mathlib.Core.List.{List, [], _∷_}
 use mathlib.Core.Path.{_≡_, refl, sym, _∙_}
 use native.Mathlib.Omega.{arith}
@@ -9,10 +8,10 @@ use borrow.Author.Tests.{leb-true, leb-false}
 use lib.Dec.{leb}
 use Rattle.frame.specs.Ground.{pick}
 use Rattle.frame.proofs.Ground.{pick-case, unless-tells, true-both, never}
-use Rattle.printer.specs.State.{valid-state, printer-of}
+use Rattle.printer.specs.State.{printer-of}
 use Rattle.printer.specs.Answer.{nack}
 use Rattle.printer.specs.Call.{set-clock, tick-clock}
-use Rattle.printer.specs.Receive.{Handed, Outcome, outcome, silent, answer-size, strips-size}
+use Rattle.printer.specs.Receive.{Outcome, outcome, silent, answer-size, strips-size}
 use Rattle.printer.specs.OutcomeLaws.{Refuses}
 use Rattle.printer.specs.Demands.{Untouched, BadState, BadStateElsewhere, ShortBuffer, RefusedStays}
 use Rattle.printer.proofs.OutcomeLaws.{refusal-keeps}

@@ -1,5 +1,5 @@
 -- What an order comes to: it is refused at its first test that fails, and the state stays, or it is done; and what is answered of it.
-use Prim.Native.Nat.{ℕ, _+_, _-_, _≤_, _<_}
+use Prim.Native.Nat.{ℕ, _+_, _-_, _≤_}
 use mathlib.Core.Bool.{Bool, true, false}
 use mathlib.Core.List.{List, [], _∷_, map}
 use mathlib.Core.Path.{_≡_, refl, sym, _∙_, ap, subst}
@@ -11,7 +11,7 @@ use lib.ListN.{length, set, take, length-append, length-take}
 use Rattle.frame.specs.Ground.{all, joined, over}
 use Rattle.frame.proofs.Ground.{lent-tail, tail-back}
 use Rattle.printer.specs.State.{Printer, bytes-of}
-use Rattle.printer.specs.Order.{Order, no-strips, given, Obeys}
+use Rattle.printer.specs.Order.{Order, no-strips, Obeys}
 use Rattle.printer.specs.Answer.{Silent, Settles, Tells, ack, nack}
 use Rattle.printer.specs.Change.{set-message, set-parameters, set-both, edit-message, update-fields}
 use Rattle.printer.specs.Request.{ask-counter, ask-message, ask-table, ask-clock}

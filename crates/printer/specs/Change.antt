@@ -1,6 +1,5 @@
 -- What the frames 0Ah, 0Bh, 0Ch, 42h and a field update change.
 use Prim.Native.Nat.{ℕ, _+_}
-use mathlib.Core.Bool.{Bool}
 use mathlib.Core.List.{List, [], _∷_}
 use lib.Dec.{ltb}
 use lib.ListN.{getD, take, drop}

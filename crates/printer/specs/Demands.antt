@@ -24,8 +24,7 @@ use Rattle.printer.specs.Clock.{clock-text, entries, table-text}
 use Rattle.printer.specs.Counter.{counter-text}
 use Rattle.printer.specs.Jet.{Jet, has-jet, has-message, message, parameters, with-message, with-parameters}
 use Rattle.printer.specs.State.{Printer, jet-at, printer-of, bytes-of, state-size, valid-state}
-use Rattle.printer.specs.Order.{Obeys, Order, left, no-strips, jet-number, jet-in, with-jet-in}
-use Rattle.printer.specs.Answer.{ack, nack}
+use Rattle.printer.specs.Order.{Obeys, left, no-strips, jet-number, jet-in, with-jet-in}
 use Rattle.printer.specs.Change.{parameters-in, address-in, edited-jet, update-fields, updated-head}
 use Rattle.printer.specs.Print.{ready, strips, values, counted-jets}
 use Rattle.printer.specs.Receive.{Handed, Outcome, outcome, kept, obeyed, order, refusal, answer-size, strips-size}

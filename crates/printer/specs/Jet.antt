@@ -3,7 +3,7 @@ use Prim.Native.Nat.{ℕ, _+_, _*_, _-_}
 use mathlib.Core.Bool.{Bool, true, false, not}
 use mathlib.Core.List.{List, _++_}
 use lib.Dec.{eqb, leb, ltb}
-use lib.ListN.{length, take, drop, replicate}
+use lib.ListN.{length, take, drop}
 use Rattle.frame.specs.Ground.{pick, unless, both, within, over}
 use Rattle.content.specs.Content.{longest-message, is-content}
 use Rattle.printer.specs.Number.{number-of, in-bytes}

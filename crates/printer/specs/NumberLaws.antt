@@ -12,7 +12,7 @@ use Rattle.frame.specs.Receive.{received}
 use Rattle.frame.specs.declared.receive.Received.{Received}
 use Rattle.frame.specs.declared.receive.Received.the-variants.{Partial, Refused, Misfit, Enquiry, Update, Frame}
 use Rattle.printer.specs.State.{Printer, printer-of, state-size}
-use Rattle.printer.specs.Order.{Obeys, Order}
+use Rattle.printer.specs.Order.{Obeys}
 use Rattle.printer.specs.Change.{update-fields}
 use Rattle.printer.specs.Receive.{Handed, handing-tests, order, outcome}
 use Rattle.printer.specs.Call.{Freshens, fresh-tests, set-clock, tick-clock}

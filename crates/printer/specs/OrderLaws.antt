@@ -9,8 +9,8 @@ use lib.ListN.{length}
 use Rattle.frame.specs.Ground.{Test, both, all}
 use Rattle.printer.specs.State.{Printer, valid}
 use Rattle.printer.specs.Order.{Order, given}
-use Rattle.printer.specs.Change.{set-message, set-parameters, set-both, edit-message, update-fields}
-use Rattle.printer.specs.Receive.{Outcome, obeyed, done, refusal, order}
+use Rattle.printer.specs.Change.{update-fields}
+use Rattle.printer.specs.Receive.{obeyed, done, refusal, order}
 
 -- 01, Numbers: "Checked in this order; the first that applies is given, and none otherwise", whatever the order is.
 abbrev pub ObeyedDone : Type 0

@@ -4,7 +4,7 @@ use mathlib.Core.List.{List}
 use mathlib.Core.Path.{_≡_, refl, sym, subst}
 use native.Mathlib.Omega.{arith}
 use borrow.Author.Needs.{needs}
-use lib.ListN.{length, take, drop}
+use lib.ListN.{length, drop}
 use lib.Seq.{length-take-le}
 use Rattle.console.specs.Console.{line-size, Turns}
 use Rattle.console.proofs.Laws.{At, at-start, goes, stops, fails, moves, ends, rest-lent, line-inside, consumed-inside}
