@@ -18,6 +18,8 @@ use frame::build::answer;
 use frame::build::build;
 use frame::build::lay;
 use frame::build::wrap;
+use line::Lined;
+use line::write_line;
 
 // More than any buffer that the table asks for.
 pub(crate) const BUFFER: usize = 1_600;
@@ -87,6 +89,21 @@ pub(crate) fn show_lay(out: &mut [u8], room: usize, data: &[u8]) {
         return;
     }
     show_refused(out, 2);
+}
+
+// The console's line for a number and an answer.
+pub(crate) fn show_line(out: &mut [u8], room: usize, number: u8, data: &[u8]) {
+    if out.len() < room {
+        return;
+    }
+    let lined = write_line(&mut out[0..room], number, data);
+    match lined {
+        Lined::Short => {
+            text(b" short");
+            mark(out, 0);
+        }
+        Lined::Written(n) => show_written(out, n),
+    }
 }
 
 // Digits of a counter, and for the date codes from 55h on a letter each.

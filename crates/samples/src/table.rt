@@ -15,6 +15,7 @@ use crate::lower::show_answer;
 use crate::lower::show_build;
 use crate::lower::show_edit;
 use crate::lower::show_lay;
+use crate::lower::show_line;
 use crate::lower::show_positions;
 use crate::lower::show_put;
 use crate::lower::show_strip;
@@ -114,7 +115,7 @@ fn damage(line: &[u8], state: &mut [u8], answer: &mut [u8], strips: &mut [u8], r
     lay(&mut state[at..], front(&before, DAMAGE));
 }
 
-// A frame of the first byte and the others.
+// A frame of the first byte and the others, or the console's line of them.
 fn built(line: &[u8], out: &mut [u8], room: usize, s: &[u8]) {
     if s.len() < 1 {
         return;
@@ -125,6 +126,10 @@ fn built(line: &[u8], out: &mut [u8], room: usize, s: &[u8]) {
     }
     if begins(line, b"answer") {
         show_answer(out, room, s[0], &s[1..]);
+        return;
+    }
+    if begins(line, b"line") {
+        show_line(out, room, s[0], &s[1..]);
         return;
     }
     show_wrap(out, room, s[0], number(line, 3));
