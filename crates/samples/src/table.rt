@@ -58,6 +58,9 @@ fn moment(line: &[u8], k: usize) -> Clock
     }
 }
 
+// What stands behind the bytes handed in: who looks too far finds the end of an update.
+const BEHIND: u8 = 0x03;
+
 // More bytes than a line overwrites.
 const DAMAGE: usize = 64;
 
@@ -68,7 +71,7 @@ fn is_word(b: u8) -> bool {
 
 // The bytes of a line go into a call.
 fn with_bytes(line: &[u8], state: &mut [u8], answer: &mut [u8], strips: &mut [u8], rooms: Rooms) {
-    let mut s = [0; BYTES];
+    let mut s = [BEHIND; BYTES];
     if begins(line, b"frame") {
         let n = bytes_in(line, 1, &mut s);
         frame(state, front(&s, n), answer, strips, rooms);
@@ -306,7 +309,7 @@ fn turn(
 }
 
 pub(crate) fn run(s: &[u8]) {
-    let mut state = [0; ROOM];
+    let mut state = [UNWRITTEN; ROOM];
     let mut kept = [0; ROOM];
     let mut answer = [UNWRITTEN; ANSWERS];
     let mut strips = [UNWRITTEN; STRIPS];
