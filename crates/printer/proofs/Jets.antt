@@ -22,7 +22,7 @@ use Rattle.content.specs.declared.edit.Edited.the-variants.{Done}
 use Rattle.printer.specs.Number.{number-of, in-bytes}
 use Rattle.printer.specs.Counter.{Counter, set-to, counted, counter-size, counter-of, counter-bytes}
 use Rattle.printer.specs.Jet.{message, parameters, general-place, counter-place, jet-size, jet-of, jet-bytes, with-message, with-parameters, counted-jet}
-use Rattle.printer.specs.Change.{EditsJet, edited-jet, updated-jet, with-both}
+use Rattle.printer.specs.Change.{BecomesJet, edited-jet, updated-jet, with-both}
 use Rattle.printer.proofs.Numbers.{Bytes, bytes-take, bytes-drop, bytes-back}
 use Rattle.printer.proofs.Counters.{counter-back}
 
@@ -181,11 +181,11 @@ module _ (b : List ℕ) (full : length b ≡ jet-size) (f : Bytes b) where
         let same : last ≡ midOf 2 (2 + n - 2) b = p .bytes ∙ rw refused in
         ap (putMid 2 (2 + n - 2) b) same ∙ put-same 2 (2 + n - 2) b
 
-    pub edited-left : {x : Edited} → r ≡ x → EditsJet (jet-of b) address symbols b (number x) (putMid 2 (2 + n - 2) b last)
+    pub edited-left : {x : Edited} → r ≡ x → BecomesJet (tests address symbols) (edited-jet (jet-of b) address symbols) b (number x) (putMid 2 (2 + n - 2) b last)
     edited-left q =
         record {
-          gives = ap number (sym q) ∙ p .first ∙ ap (λ (l : List ℕ). first-failing (edit-tests l address symbols)) (message-lent b e h);
-          leaves = leaves (all (tests address symbols)) refl;
+          number = ap number (sym q) ∙ p .first ∙ ap (λ (l : List ℕ). first-failing (edit-tests l address symbols)) (message-lent b e h);
+          jet = leaves (all (tests address symbols)) refl;
         }
 
   -- Another message, of any length.

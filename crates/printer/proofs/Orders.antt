@@ -14,8 +14,10 @@ use Rattle.frame.specs.Build.{frame, Answers, Wraps}
 use Rattle.frame.specs.declared.build.Built.{Built}
 use Rattle.frame.proofs.Ground.{length-over, over-under}
 use Rattle.frame.proofs.Told.{frame-length, answered-fits, wrap-fits}
+use Rattle.printer.specs.Jet.{Jet, jet-bytes}
 use Rattle.printer.specs.State.{bytes-of}
 use Rattle.printer.specs.Order.{Order, given, Obeys}
+use Rattle.printer.specs.Change.{BecomesJet}
 use Rattle.printer.specs.Answer.{Tells, Untold}
 use Rattle.printer.specs.declared.request.Told.{Told}
 
@@ -58,12 +60,25 @@ refused f = record { number = fails-number f; state = rw (fails-all f) }
 pub obeyed : {o : Order} {m : List ℕ} {m′ : List ℕ} → Passes (o .tests) → m′ ≡ bytes-of (o .after) → Obeys o m 0 m′
 obeyed f e = record { number = passes-number f; state = rw (passes-all f) e }
 
--- ---- An order that asks for a frame: refused it gives the number and writes nothing, else the frame stands at the buffer's front.
-pub untold : {o : Order} {before : List ℕ} {n : ℕ} {r : Told} → Untold n r → Fails (o .tests) n → Tells o before r before
+-- The same of a jet's bytes.
+pub jet-refused : {ts : List Test} {j : Jet} {b : List ℕ} {n : ℕ} → Fails ts n → BecomesJet ts j b n b
+jet-refused f = record { number = fails-number f; jet = rw (fails-all f) }
+
+pub jet-becomes : {ts : List Test} {j : Jet} {b b′ : List ℕ} → Passes ts → b′ ≡ jet-bytes j → BecomesJet ts j b 0 b′
+jet-becomes f e = record { number = passes-number f; jet = rw (passes-all f) e }
+
+pub jet-behind : {t : Bool} {n : ℕ} {ts : List Test} {j : Jet} {b b′ : List ℕ} {r : ℕ} → t ≡ true → BecomesJet ts j b r b′ → BecomesJet (test t n ∷ ts) j b r b′
+jet-behind h e = record { number = rw h (e .number); jet = rw h (e .jet) }
+
+-- ---- A frame that is told: refused there is a number and nothing is written, else the frame stands at the buffer's front.
+pub untold : {ts : List Test} {frame before : List ℕ} {n : ℕ} {r : Told} → Untold n r → Fails ts n → Tells ts frame before r before
 untold u f = rw (u .told) (record { number = fails-number f; size = rw (fails-all f); bytes = rw (fails-all f) })
 
-pub told-frame : {o : Order} (identifier : ℕ) (d : List ℕ) {before after : List ℕ} {size : ℕ} → Passes (o .tests) → o .frame ≡ frame identifier d → size ≡ length d + 4
-    → after ≡ over (frame identifier d) before → Tells o before (record { number = 0; size = size }) after
+pub told-behind : {t : Bool} {n : ℕ} {ts : List Test} {frame before after : List ℕ} {r : Told} → t ≡ true → Tells ts frame before r after → Tells (test t n ∷ ts) frame before r after
+told-behind h e = record { number = rw h (e .number); size = rw h (e .size); bytes = rw h (e .bytes) }
+
+pub told-frame : {ts : List Test} (identifier : ℕ) (d : List ℕ) {told before after : List ℕ} {size : ℕ} → Passes ts → told ≡ frame identifier d → size ≡ length d + 4
+    → after ≡ over (frame identifier d) before → Tells ts told before (record { number = 0; size = size }) after
 told-frame identifier d f e s w =
     record {
       number = passes-number f;
@@ -72,8 +87,8 @@ told-frame identifier d f e s w =
     }
 
 -- The builder writes the frame, since it fits: of data that it is given, and of data that stands behind a head's place already.
-pub answer-told : {o : Order} {identifier : ℕ} {d before after : List ℕ} {r : Built} {size : ℕ} → Answers before identifier d r after → Passes (o .tests)
-    → o .frame ≡ frame identifier d → size ≡ length d + 4 → length d ≤ 549 → 553 ≤ length before → Tells o before (record { number = 0; size = size }) after
+pub answer-told : {ts : List Test} {identifier : ℕ} {d told before after : List ℕ} {r : Built} {size : ℕ} → Answers before identifier d r after → Passes ts
+    → told ≡ frame identifier d → size ≡ length d + 4 → length d ≤ 549 → 553 ≤ length before → Tells ts told before (record { number = 0; size = size }) after
 answer-told {identifier = identifier} {d = d} {before = before} a f e s short room =
     let fits = a .answer ∙ answered-fits (length before) (length d) (omega arith) (omega arith) in
     told-frame identifier d f e s (a .buffer ∙ ap (λ (x : Built). over (build.bytes-of x identifier d) before) fits)

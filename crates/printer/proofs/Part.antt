@@ -1,15 +1,16 @@
 -- A jet's part of a state's bytes: what it is while it is lent, and what the whole is when it is back.
 use Prim.Native.Nat.{ℕ, _+_, _-_, _≤_}
 use mathlib.Core.Bool.{Bool, true, false}
-use mathlib.Core.List.{List}
+use mathlib.Core.List.{List, _∷_}
 use mathlib.Core.Path.{_≡_, refl, sym, _∙_, ap}
 use native.Mathlib.Omega.{arith}
 use borrow.Rule.Slice.PartMut.{midOf, putMid, put-same}
 use lib.ListN.{length}
-use Rattle.frame.specs.Ground.{pick}
+use Rattle.frame.specs.Ground.{Test, all, pick, test}
 use Rattle.printer.specs.Jet.{Jet, jet-size, jet-of, jet-bytes}
 use Rattle.printer.specs.State.{Printer, state-size, jet-at, with-jet, jet-place, printer-of, bytes-of, valid-state}
-use Rattle.printer.specs.Order.{jet-number, on-printer, Places}
+use Rattle.printer.specs.Order.{Order, change, jet-number, on-printer, jet-in, with-jet-in, Places, Obeys}
+use Rattle.printer.specs.Change.{BecomesJet}
 use Rattle.printer.proofs.Valid.{valid-printer, valid-at, jet-short, on-row}
 use Rattle.printer.proofs.Numbers.{Bytes}
 use Rattle.printer.proofs.Memory.{part-full, jet-lent, jet-put}
@@ -66,3 +67,16 @@ stands {m} {d} e n full known =
     let on : on-printer (printer-of m) d ≡ true = named e n in
     let row = on-row (printer-of m .model) (jet-number d) on in
     record { full = full; known = known; place = e .place ∙ rw on; least = row .0; most = row .1 }
+
+-- What becomes of that jet's part is what an order on it makes of the state, once the jet is on the printer.
+module _ (m d : List ℕ) {at r : ℕ} {ts : List Test} {j : Jet} {last : List ℕ} (s : Stands m (jet-number d) at) (on : on-printer (printer-of m) d ≡ true)
+    (e : BecomesJet ts j (midOf at (at + jet-size - at) m) r last) where
+  abbrev part-order : Order
+  part-order = change (test (on-printer (printer-of m) d) 8 ∷ ts) (with-jet-in (printer-of m) d j)
+
+  pub part-obeys : Obeys part-order m r (putMid at (at + jet-size - at) m last)
+  part-obeys = go (all ts) refl
+    where
+      go : (t : Bool) → all ts ≡ t → Obeys part-order m r (putMid at (at + jet-size - at) m last)
+      go true t = record { number = rw on (e .number); state = rw (on, t) (part-written s (λ _. j) (e .jet ∙ rw t)) }
+      go false t = record { number = rw on (e .number); state = rw (on, t) (part-kept s (e .jet ∙ rw t)) }

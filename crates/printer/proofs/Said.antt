@@ -8,16 +8,20 @@ use native.Mathlib.Omega.{arith}
 use borrow.Author.Tests.{eq-eqb, ne-eqb}
 use borrow.Rule.Slice.PartMut.{midOf, putMid}
 use lib.ListN.{length, set, take, length-append, length-take}
-use Rattle.frame.specs.Ground.{all, joined, over}
+use Rattle.frame.specs.Ground.{Test, all, joined, over}
 use Rattle.frame.proofs.Ground.{lent-tail, tail-back}
 use Rattle.printer.specs.State.{Printer, bytes-of}
 use Rattle.printer.specs.Order.{Order, no-strips, Obeys}
-use Rattle.printer.specs.Answer.{Silent, Settles, Tells, ack, nack}
-use Rattle.printer.specs.Change.{set-message, set-parameters, set-both, edit-message, update-fields}
-use Rattle.printer.specs.Request.{ask-counter, ask-message, ask-table, ask-clock}
+use Rattle.printer.specs.Answer.{Silent, Settles, Tells, TellsOrder, ack, nack}
+use Rattle.printer.specs.Change.{change-order, update-fields}
+use Rattle.printer.specs.Request.{request-order, ask-table, ask-clock}
 use Rattle.printer.specs.Receive.{Outcome, Meets, silent, refusal, done, obeyed, enquire}
 use Rattle.printer.specs.OrderLaws.{numbered}
 use Rattle.printer.specs.declared.answer.Answered.{Answered}
+use Rattle.printer.specs.declared.change.Change.{Change}
+use Rattle.printer.specs.declared.change.Change.the-variants.{Message, Parameters, Both, Characters}
+use Rattle.printer.specs.declared.request.Request.{Request}
+use Rattle.printer.specs.declared.request.Request.the-variants as request
 use Rattle.printer.specs.declared.request.Told.{Told}
 use Rattle.printer.proofs.OrderLaws.{obeyed-done, obeyed-refused, given-exactly}
 
@@ -113,7 +117,7 @@ meets-changed p o {number} {consumed} {m} {answer} strips {a} {m′} {answer′}
         (meets-refusal p m strips (not-zero (given-exactly (o .tests) (k .numbers) .1 e)) (one-byte nack answer h) (rw (c .number) at s)))
 
 pub meets-told : (p : Printer) (o : Order) {consumed : ℕ} {m answer : List ℕ} (strips : List ℕ) {t : Told} {last : List ℕ} {a : Answered} {answer′ : List ℕ} → Asks p o
-    → bytes-of p ≡ m → 1 ≤ length answer → Tells o (midOf 1 (length answer - 1) answer) t last
+    → bytes-of p ≡ m → 1 ≤ length answer → TellsOrder o (midOf 1 (length answer - 1) answer) t last
     → Settles (t .number) consumed (t .size) (putMid 1 (length answer - 1) answer last) a answer′ → Meets (obeyed p o consumed) m answer strips a m answer′ strips
 meets-told p o {consumed} {m} {answer} strips {t} {last} {a} {answer′} k b h c s = go (all (o .tests)) refl
   where
@@ -127,7 +131,7 @@ meets-told p o {consumed} {m} {answer} strips {t} {last} {a} {answer′} k b h c
         (meets-refusal p m strips (not-zero (given-exactly (o .tests) (k .numbers) .1 e)) (first-byte nack [] answer last h (c .bytes ∙ rw e)) (rw (c .number) at s))
 
 -- The frame that is told has its place in the part that was lent for it.
-pub told-fits : {o : Order} (answer : List ℕ) {t : Told} {last : List ℕ} → Tells o (midOf 1 (length answer - 1) answer) t last → 1 ≤ length answer
+pub told-fits : {ts : List Test} {frame : List ℕ} (answer : List ℕ) {t : Told} {last : List ℕ} → Tells ts frame (midOf 1 (length answer - 1) answer) t last → 1 ≤ length answer
     → length (putMid 1 (length answer - 1) answer last) ≡ length answer → t .size + 1 ≤ length (putMid 1 (length answer - 1) answer last)
 told-fits answer {last = last} c h e =
     omega (
@@ -156,21 +160,11 @@ meets-printed o {number} m {answer} e n h s k l b =
     })
 
 -- ---- The orders of document 01.
-pub message-changes : (p : Printer) (d : List ℕ) → Changes (set-message p d)
-unfolding set-message
-message-changes p d = record { numbers = refl; frame = refl; strips = refl }
-
-pub parameters-change : (p : Printer) (d : List ℕ) → Changes (set-parameters p d)
-unfolding set-parameters
-parameters-change p d = record { numbers = refl; frame = refl; strips = refl }
-
-pub both-change : (p : Printer) (d : List ℕ) → Changes (set-both p d)
-unfolding set-both
-both-change p d = record { numbers = refl; frame = refl; strips = refl }
-
-pub edit-changes : (p : Printer) (d : List ℕ) → Changes (edit-message p d)
-unfolding edit-message
-edit-changes p d = record { numbers = refl; frame = refl; strips = refl }
+pub change-changes : (what : Change) (p : Printer) (d : List ℕ) → Changes (change-order what p d)
+change-changes Message p d = record { numbers = refl; frame = refl; strips = refl }
+change-changes Parameters p d = record { numbers = refl; frame = refl; strips = refl }
+change-changes Both p d = record { numbers = refl; frame = refl; strips = refl }
+change-changes Characters p d = record { numbers = refl; frame = refl; strips = refl }
 
 pub fields-change : (p : Printer) (text : List ℕ) → Changes (update-fields p text)
 unfolding update-fields
@@ -179,13 +173,9 @@ fields-change p text = record { numbers = refl; frame = refl; strips = refl }
 pub enquiry-changes : (p : Printer) → Changes (enquire p)
 enquiry-changes p = record { numbers = refl; frame = refl; strips = refl }
 
-pub counter-asks : (p : Printer) (d : List ℕ) → Asks p (ask-counter p d)
-unfolding ask-counter
-counter-asks p d = record { numbers = refl; after = refl; strips = refl }
-
-pub message-asks : (p : Printer) (d : List ℕ) → Asks p (ask-message p d)
-unfolding ask-message
-message-asks p d = record { numbers = refl; after = refl; strips = refl }
+pub request-asks : (what : Request) (p : Printer) (d : List ℕ) → Asks p (request-order what p d)
+request-asks request.Counter p d = record { numbers = refl; after = refl; strips = refl }
+request-asks request.Message p d = record { numbers = refl; after = refl; strips = refl }
 
 pub table-asks : (p : Printer) → Asks p (ask-table p)
 unfolding ask-table

@@ -4,7 +4,7 @@ use mathlib.Core.List.{List, []}
 use mathlib.Core.Path.{_≡_}
 use lib.Dec.{eqb}
 use lib.ListN.{length, set, replicate}
-use Rattle.frame.specs.Ground.{pick, all, over}
+use Rattle.frame.specs.Ground.{Test, pick, all, over}
 use Rattle.printer.specs.Order.{Order, given}
 use Rattle.printer.specs.declared.answer.Answered.{Answered}
 use Rattle.printer.specs.declared.request.Told.{Told}
@@ -28,14 +28,17 @@ pub record Settles (number consumed frame : ℕ) (before : List ℕ) (r : Answer
   pub answered : r ≡ record { number = number; consumed = consumed; answer = pick (eqb number 0) (frame + 1) 1; strips = none }
   pub bytes : after ≡ set before 0 (pick (eqb number 0) ack nack)
 
--- The frame that an order tells, where it passes its tests.
-abbrev pub told : Order → List ℕ
-told o = pick (all (o .tests)) (o .frame) []
+-- The frame that is told, where the tests before it all hold.
+abbrev pub told : List Test → List ℕ → List ℕ
+told tests frame = pick (all tests) frame []
 
-pub record Tells (o : Order) (before : List ℕ) (r : Told) (after : List ℕ) : Type 0 where
-  pub number : r .number ≡ given (o .tests)
-  pub size : r .size ≡ length (told o)
-  pub bytes : after ≡ over (told o) before
+pub record Tells (tests : List Test) (frame before : List ℕ) (r : Told) (after : List ℕ) : Type 0 where
+  pub number : r .number ≡ given tests
+  pub size : r .size ≡ length (told tests frame)
+  pub bytes : after ≡ over (told tests frame) before
+
+abbrev pub TellsOrder : Order → List ℕ → Told → List ℕ → Type 0
+TellsOrder o before r after = Tells (o .tests) (o .frame) before r after
 
 -- What is refused has a number alone.
 pub record Untold (number : ℕ) (r : Told) : Type 0 where

@@ -4,59 +4,73 @@ use mathlib.Core.List.{List, [], _∷_}
 use lib.Dec.{ltb}
 use lib.ListN.{getD, take, drop}
 use mathlib.Core.Path.{_≡_}
-use Rattle.frame.specs.Ground.{all, first-failing, pick, test}
+use Rattle.frame.specs.Ground.{Test, all, pick, test}
 use Rattle.frame.specs.Wire.{word}
 use Rattle.content.specs.Machine.{start}
 use Rattle.content.specs.Content.{is-content}
 use Rattle.content.specs.Position.{field-positions}
 use Rattle.content.specs.Edit.{edit-tests, replaced}
 use Rattle.content.specs.Update.{laid, update-tests}
-use Rattle.printer.specs.Jet.{Jet, head-jet, has-message, message, good-parameters, with-message, with-parameters, jet-bytes}
+use Rattle.printer.specs.Jet.{Jet, head-jet, has-message, message, good-parameters, with-message, with-parameters, jet-of, jet-bytes}
 use Rattle.printer.specs.State.{Printer, jet-at, with-jet}
-use Rattle.printer.specs.Order.{Order, change, on-printer, jet-in, with-jet-in}
+use Rattle.printer.specs.Order.{Order, change, given, on-printer, jet-in, with-jet-in}
+use Rattle.printer.specs.declared.change.Change.{Change}
+use Rattle.printer.specs.declared.change.Change.the-variants.{Message, Parameters, Both, Characters}
 
--- 01, On the wire: 0Ah "jet, content". 01, Numbers: 8 "jet not on this printer", 10 "not a content".
-unfoldable pub set-message : Printer → List ℕ → Order
-set-message p d =
-    change
-    (test (on-printer p d) 8 ∷ test (is-content (drop 1 d)) 10 ∷ [])
-    (with-jet-in p d (with-message (jet-in p d) (drop 1 d)))
-
--- 0Bh "jet, 37 parameter bytes". 9 "parameters not good".
+-- 01, On the wire: 0Ah "jet, content", 0Bh "jet, 37 parameter bytes", 0Ch "jet, 37 parameter bytes, content", 42h "jet, address (2),
+-- symbols".
 abbrev pub parameters-in : List ℕ → List ℕ
 parameters-in d = take 37 (drop 1 d)
 
-unfoldable pub set-parameters : Printer → List ℕ → Order
-set-parameters p d =
-    change
-    (test (on-printer p d) 8 ∷ test (good-parameters (parameters-in d)) 9 ∷ [])
-    (with-jet-in p d (with-parameters (jet-in p d) (parameters-in d)))
-
--- 0Ch "jet, 37 parameter bytes, content".
-abbrev pub with-both : Jet → List ℕ → List ℕ → Jet
-with-both j q c = with-parameters (with-message j c) q
-
-unfoldable pub set-both : Printer → List ℕ → Order
-set-both p d =
-    change
-    (test (on-printer p d) 8 ∷ test (good-parameters (parameters-in d)) 9 ∷ test (is-content (drop 38 d)) 10 ∷ [])
-    (with-jet-in p d (with-both (jet-in p d) (parameters-in d) (drop 38 d)))
-
--- 42h "jet, address (2), symbols". 11 "no content", 12 "an addressed byte is no character position", 13 "a new symbol [..] is no
--- character". 01, What an accepted frame does: "42h replaces bytes from the address on".
 abbrev pub address-in : List ℕ → ℕ
 address-in d = word (getD d 1 0) (getD d 2 0)
+
+-- 01, Numbers: 9 "parameters not good", 10 "not a content", 11 "no content", 12 "an addressed byte is no character position", 13 "a new
+-- symbol [..] is no character".
+abbrev pub change-tests : Change → Jet → List ℕ → List Test
+change-tests Message j d = test (is-content (drop 1 d)) 10 ∷ []
+change-tests Parameters j d = test (good-parameters (parameters-in d)) 9 ∷ []
+change-tests Both j d = test (good-parameters (parameters-in d)) 9 ∷ test (is-content (drop 38 d)) 10 ∷ []
+change-tests Characters j d = test (has-message j) 11 ∷ edit-tests (message j) (address-in d) (drop 3 d)
+
+-- 01, What an accepted frame does: "0Ah, 0Bh, 0Ch replace what they name on that jet", "42h replaces bytes from the address on".
+abbrev pub with-both : Jet → List ℕ → List ℕ → Jet
+with-both j q c = with-parameters (with-message j c) q
 
 abbrev pub edited-jet : Jet → ℕ → List ℕ → Jet
 edited-jet j address symbols = with-message j (replaced (message j) address symbols)
 
-unfoldable pub edit-message : Printer → List ℕ → Order
-edit-message p d =
+abbrev pub changed-jet : Change → Jet → List ℕ → Jet
+changed-jet Message j d = with-message j (drop 1 d)
+changed-jet Parameters j d = with-parameters j (parameters-in d)
+changed-jet Both j d = with-both j (parameters-in d) (drop 38 d)
+changed-jet Characters j d = edited-jet j (address-in d) (drop 3 d)
+
+-- 8 "jet not on this printer" comes before what is asked of the jet.
+abbrev pub change-order : Change → Printer → List ℕ → Order
+change-order what p d =
     change
-    (test (on-printer p d) 8
-    ∷ test (has-message (jet-in p d)) 11
-    ∷ edit-tests (message (jet-in p d)) (address-in d) (drop 3 d))
-    (with-jet-in p d (edited-jet (jet-in p d) (address-in d) (drop 3 d)))
+    (test (on-printer p d) 8 ∷ change-tests what (jet-in p d) d)
+    (with-jet-in p d (changed-jet what (jet-in p d) d))
+
+unfoldable pub set-message : Printer → List ℕ → Order
+set-message p d = change-order Message p d
+
+unfoldable pub set-parameters : Printer → List ℕ → Order
+set-parameters p d = change-order Parameters p d
+
+unfoldable pub set-both : Printer → List ℕ → Order
+set-both p d = change-order Both p d
+
+unfoldable pub edit-message : Printer → List ℕ → Order
+edit-message p d = change-order Characters p d
+
+-- How many data bytes each of them has at the least: the table's lengths.
+abbrev pub least-data : Change → ℕ
+least-data Message = 2
+least-data Parameters = 38
+least-data Both = 39
+least-data Characters = 4
 
 -- 01, What an accepted frame does: "An update lays its characters over the character positions of external fields on head 1, jets
 -- ascending, fields in order". 11 "no field position on head 1", 13 "an update byte is no character".
@@ -85,7 +99,11 @@ update-fields p text =
     (test (ltb 0 (positions (first-of-head p) + positions (second-of-head p))) 11 ∷ update-tests text)
     (updated-head p text)
 
--- What 42h makes of a jet's bytes: the edit's number, and the jet with its bytes replaced where all tests hold.
-pub record EditsJet (j : Jet) (address : ℕ) (symbols b : List ℕ) (r : ℕ) (b′ : List ℕ) : Type 0 where
-  pub gives : r ≡ first-failing (edit-tests (message j) address symbols)
-  pub leaves : b′ ≡ pick (all (edit-tests (message j) address symbols)) (jet-bytes (edited-jet j address symbols)) b
+-- A jet's bytes behind some tests: their number, and the bytes of another jet where they all hold.
+pub record BecomesJet (tests : List Test) (j : Jet) (b : List ℕ) (r : ℕ) (b′ : List ℕ) : Type 0 where
+  pub number : r ≡ given tests
+  pub jet : b′ ≡ pick (all tests) (jet-bytes j) b
+
+-- What a change makes of a jet's bytes.
+abbrev pub ChangesJet : Change → List ℕ → List ℕ → ℕ → List ℕ → Type 0
+ChangesJet what d b r b′ = BecomesJet (change-tests what (jet-of b) d) (changed-jet what (jet-of b) d) b r b′

@@ -5,7 +5,6 @@ use mathlib.Core.List.{List, []}
 use mathlib.Core.Path.{_≡_}
 use lib.ListN.{getD, replicate}
 use Rattle.frame.specs.Ground.{Test, all, pick, first-failing}
-use Rattle.frame.specs.Build.{frame}
 use Rattle.printer.specs.Jet.{Jet, has-jet, jet-size}
 use Rattle.printer.specs.State.{Printer, jet-at, with-jet, state-size, jet-place, bytes-of}
 
@@ -24,8 +23,8 @@ no-strips = replicate 4 []
 abbrev pub change : List Test → Printer → Order
 change tests after = record { tests = tests; after = after; frame = []; strips = no-strips }
 
-abbrev pub tell : List Test → Printer → ℕ → List ℕ → Order
-tell tests p identifier d = record { tests = tests; after = p; frame = frame identifier d; strips = no-strips }
+abbrev pub tell : List Test → Printer → List ℕ → Order
+tell tests p frame = record { tests = tests; after = p; frame = frame; strips = no-strips }
 
 -- 01, Numbers: "the first that applies is given, and none otherwise"; and 0 is "done".
 abbrev pub given : List Test → ℕ

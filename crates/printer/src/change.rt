@@ -21,9 +21,20 @@ ghost use Prim.Native.Nat.{_≤_};
 ghost use lib.ListN.{length};
 ghost use mathlib.Core.Bool.{true};
 ghost use mathlib.Core.Path.{_≡_};
-ghost use Rattle.printer.specs.Change.{edit-message, set-both, set-message, set-parameters, update-fields};
+ghost use Rattle.content.specs.Content.{longest-message};
+ghost use Rattle.printer.specs.Change.{ChangesJet, change-order, least-data, update-fields};
+ghost use Rattle.printer.specs.Jet.{jet-of, jet-size};
 ghost use Rattle.printer.specs.Order.{Obeys, Places};
 ghost use Rattle.printer.specs.State.{printer-of, state-size, valid-state};
+ghost use Rattle.printer.specs.declared.change.Change.the-variants.{Both, Characters, Message, Parameters};
+
+// What a frame changes on the jet that it names: 0Ah the message, 0Bh the parameters, 0Ch both, 42h characters of the message.
+pub(crate) enum Change {
+    Message,
+    Parameters,
+    Both,
+    Characters,
+}
 
 // The first data byte is the jet number: where that jet begins, or 0 where it is not on the printer.
 pub(crate) fn place_in(state: &[u8], d: &[u8]) -> usize
@@ -38,77 +49,83 @@ pub(crate) fn place_in(state: &[u8], d: &[u8]) -> usize
 }
 
 // 0Ah.
-pub(crate) fn set_message(state: &mut [u8], d: &[u8]) -> u8
-    requires { ⌜ (length (now state) ≡ state-size) × (2 ≤ length (now d)) ⌝ }
-    ensures { λ r. ⌜ Obeys (set-message (printer-of (now (state .entry))) (now (d .entry))) (now (state .entry)) r (now (state .exit)) ⌝ }
+fn set_message(jet: &mut [u8], d: &[u8]) -> u8
+    requires { ⌜ (length (now jet) ≡ jet-size) × (2 ≤ length (now d)) ⌝ }
+    ensures { λ r. ⌜ ChangesJet Message (now (d .entry)) (now (jet .entry)) r (now (jet .exit)) ⌝ }
 {
-    let at = place_in(state, d);
-    if at == 0 {
-        return 8;
-    }
     let message = &d[1..];
     if !is_content(message) {
         return 10;
     }
-    let end = at + JET;
-    put_message(&mut state[at..end], message);
+    put_message(jet, message);
     0
 }
 
 // 0Bh.
-pub(crate) fn set_parameters(state: &mut [u8], d: &[u8]) -> u8
-    requires { ⌜ (length (now state) ≡ state-size) × (38 ≤ length (now d)) ⌝ }
-    ensures { λ r. ⌜ Obeys (set-parameters (printer-of (now (state .entry))) (now (d .entry))) (now (state .entry)) r (now (state .exit)) ⌝ }
+fn set_parameters(jet: &mut [u8], d: &[u8]) -> u8
+    requires { ⌜ (length (now jet) ≡ jet-size) × (38 ≤ length (now d)) ⌝ }
+    ensures { λ r. ⌜ ChangesJet Parameters (now (d .entry)) (now (jet .entry)) r (now (jet .exit)) ⌝ }
 {
-    let at = place_in(state, d);
-    if at == 0 {
-        return 8;
-    }
     let parameters = &d[1..38];
     if !good_parameters(parameters) {
         return 9;
     }
-    let end = at + JET;
-    put_parameters(&mut state[at..end], parameters);
+    put_parameters(jet, parameters);
     0
 }
 
 // 0Ch.
-pub(crate) fn set_both(state: &mut [u8], d: &[u8]) -> u8
-    requires { ⌜ (length (now state) ≡ state-size) × (39 ≤ length (now d)) ⌝ }
-    ensures { λ r. ⌜ Obeys (set-both (printer-of (now (state .entry))) (now (d .entry))) (now (state .entry)) r (now (state .exit)) ⌝ }
+fn set_both(jet: &mut [u8], d: &[u8]) -> u8
+    requires { ⌜ (length (now jet) ≡ jet-size) × (39 ≤ length (now d)) ⌝ }
+    ensures { λ r. ⌜ ChangesJet Both (now (d .entry)) (now (jet .entry)) r (now (jet .exit)) ⌝ }
 {
-    let at = place_in(state, d);
-    if at == 0 {
-        return 8;
-    }
+    let message = &d[38..];
     let parameters = &d[1..38];
     if !good_parameters(parameters) {
         return 9;
     }
-    let message = &d[38..];
     if !is_content(message) {
         return 10;
     }
-    let end = at + JET;
-    put_both(&mut state[at..end], parameters, message);
+    put_both(jet, parameters, message);
     0
 }
 
 // 42h.
-pub(crate) fn edit_message(state: &mut [u8], d: &[u8]) -> u8
-    requires { ⌜ (valid-state (now state) ≡ true) × (4 ≤ length (now d)) ⌝ }
-    ensures { λ r. ⌜ Obeys (edit-message (printer-of (now (state .entry))) (now (d .entry))) (now (state .entry)) r (now (state .exit)) ⌝ }
+fn edit_message(jet: &mut [u8], d: &[u8]) -> u8
+    requires { ⌜ (length (now jet) ≡ jet-size) × (jet-of (now jet) .length ≤ longest-message) × (4 ≤ length (now d)) ⌝ }
+    ensures { λ r. ⌜ ChangesJet Characters (now (d .entry)) (now (jet .entry)) r (now (jet .exit)) ⌝ }
+{
+    if !has_message(jet) {
+        return 11;
+    }
+    edit_jet(jet, word(d[1], d[2]), &d[3..])
+}
+
+// One jet, by what is changed on it.
+fn change_jet(jet: &mut [u8], what: Change, d: &[u8]) -> u8
+    requires { ⌜ (length (now jet) ≡ jet-size) × (jet-of (now jet) .length ≤ longest-message) × (least-data what ≤ length (now d)) ⌝ }
+    ensures { λ r. ⌜ ChangesJet what (now (d .entry)) (now (jet .entry)) r (now (jet .exit)) ⌝ }
+{
+    match what {
+        Change::Message => set_message(jet, d),
+        Change::Parameters => set_parameters(jet, d),
+        Change::Both => set_both(jet, d),
+        Change::Characters => edit_message(jet, d),
+    }
+}
+
+// The jet that a frame names.
+pub(crate) fn change_order(state: &mut [u8], what: Change, d: &[u8]) -> u8
+    requires { ⌜ (valid-state (now state) ≡ true) × (least-data what ≤ length (now d)) ⌝ }
+    ensures { λ r. ⌜ Obeys (change-order what (printer-of (now (state .entry))) (now (d .entry))) (now (state .entry)) r (now (state .exit)) ⌝ }
 {
     let at = place_in(state, d);
     if at == 0 {
         return 8;
     }
     let end = at + JET;
-    if !has_message(&state[at..end]) {
-        return 11;
-    }
-    edit_jet(&mut state[at..end], word(d[1], d[2]), &d[3..])
+    change_jet(&mut state[at..end], what, d)
 }
 
 // A field update, over the jets of head 1.

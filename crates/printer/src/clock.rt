@@ -208,32 +208,17 @@ pub(crate) fn entries(c: Clock) -> [u8; 24]
 {
     let date = c.date;
     let letters = month_entry(date.month);
-    [
-        tens(c.hour),
-        ones(c.hour),
-        0x00,
-        tens(c.minute),
-        ones(c.minute),
-        0x00,
-        letters[0],
-        letters[1],
-        letters[2],
-        0x00,
-        0x00,
-        0x00,
-        tens(date.day),
-        ones(date.day),
-        0x00,
-        0x00,
-        0x00,
-        0x00,
-        0x00,
-        0x00,
-        0x00,
-        0x00,
-        0x00,
-        0x00,
-    ]
+    let mut table = [0; 24];
+    table[0] = tens(c.hour);
+    table[1] = ones(c.hour);
+    table[3] = tens(c.minute);
+    table[4] = ones(c.minute);
+    table[6] = letters[0];
+    table[7] = letters[1];
+    table[8] = letters[2];
+    table[12] = tens(date.day);
+    table[13] = ones(date.day);
+    table
 }
 
 // D6h's answer.

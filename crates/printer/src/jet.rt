@@ -19,11 +19,12 @@ ghost use Prim.Native.Nat.{_-_, _≤_};
 ghost use lib.ListN.{drop, length};
 ghost use mathlib.Core.Bool.{true};
 ghost use mathlib.Core.Path.{_≡_};
-ghost use Rattle.printer.specs.Change.{EditsJet, positions, updated-jet, with-both};
+ghost use Rattle.printer.specs.Change.{BecomesJet, edited-jet, positions, updated-jet, with-both};
 ghost use Rattle.printer.specs.Counter.{valid-counter};
 ghost use Rattle.printer.specs.Jet.{counted-jet, good-parameters, has-jet, has-message, has-parameters, head-jet, jet-bytes, jet-of, jet-size, message, parameters, valid-jet, valid-message, with-message, with-parameters};
 ghost use Rattle.printer.specs.Print.{asked, ready-jet};
 ghost use Rattle.content.specs.Content.{longest-message};
+ghost use Rattle.content.specs.Edit.{edit-tests};
 
 // "A jet number is never a head number": two kinds of number, and `head_jet` the only way across.
 pub struct JetNumber(u8);
@@ -213,7 +214,7 @@ pub(crate) fn put_both(jet: &mut [u8], q: &[u8], message: &[u8])
 // 42h on one jet: its number, and the bytes replaced where that is 0.
 pub(crate) fn edit_jet(jet: &mut [u8], address: usize, symbols: &[u8]) -> u8
     requires { ⌜ (length (now jet) ≡ jet-size) × (jet-of (now jet) .length ≤ longest-message) ⌝ }
-    ensures { λ r. ⌜ EditsJet (jet-of (now (jet .entry))) address (now (symbols .entry)) (now (jet .entry)) r (now (jet .exit)) ⌝ }
+    ensures { λ r. ⌜ BecomesJet (edit-tests (message (jet-of (now (jet .entry)))) address (now (symbols .entry))) (edited-jet (jet-of (now (jet .entry))) address (now (symbols .entry))) (now (jet .entry)) r (now (jet .exit)) ⌝ }
 {
     let end = CONTENT_AT + message_length(jet);
     let answer = edit(&mut jet[CONTENT_AT..end], address, symbols);

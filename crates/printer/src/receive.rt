@@ -4,16 +4,14 @@ use crate::answer::Answered;
 use crate::answer::STRIPS;
 use crate::answer::settle;
 use crate::answer::silent;
-use crate::change::edit_message;
-use crate::change::set_both;
-use crate::change::set_message;
-use crate::change::set_parameters;
+use crate::change::Change;
+use crate::change::change_order;
 use crate::change::update_fields;
 use crate::print::print;
+use crate::request::Request;
 use crate::request::ask_clock;
-use crate::request::ask_counter;
-use crate::request::ask_message;
 use crate::request::ask_table;
+use crate::request::request_order;
 use crate::state::valid_state;
 use frame::receive::Received;
 use frame::receive::receive as received;
@@ -39,23 +37,33 @@ fn obey(
     ensures { λ r. ⌜ Meets (obeyed (printer-of (now (state .entry))) (order (printer-of (now (state .entry))) identifier (now (d .entry))) consumed) (now (state .entry)) (now (answer .entry)) (now (strips .entry)) r (now (state .exit)) (now (answer .exit)) (now (strips .exit)) ⌝ }
 {
     if identifier == 0x0A {
-        return settle(set_message(state, d), consumed, 0, answer);
+        return settle(change_order(state, Change::Message, d), consumed, 0, answer);
     }
     if identifier == 0x0B {
-        return settle(set_parameters(state, d), consumed, 0, answer);
+        return settle(
+            change_order(state, Change::Parameters, d),
+            consumed,
+            0,
+            answer,
+        );
     }
     if identifier == 0x0C {
-        return settle(set_both(state, d), consumed, 0, answer);
+        return settle(change_order(state, Change::Both, d), consumed, 0, answer);
     }
     if identifier == 0x39 {
-        let told = ask_counter(state, d, &mut answer[1..]);
+        let told = request_order(state, Request::Counter, d, &mut answer[1..]);
         return settle(told.number, consumed, told.size, answer);
     }
     if identifier == 0x42 {
-        return settle(edit_message(state, d), consumed, 0, answer);
+        return settle(
+            change_order(state, Change::Characters, d),
+            consumed,
+            0,
+            answer,
+        );
     }
     if identifier == 0x43 {
-        let told = ask_message(state, d, &mut answer[1..]);
+        let told = request_order(state, Request::Message, d, &mut answer[1..]);
         return settle(told.number, consumed, told.size, answer);
     }
     if identifier == 0x52 {

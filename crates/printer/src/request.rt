@@ -15,19 +15,31 @@ use frame::build::lay;
 use frame::build::wrap;
 use frame::wire::AROUND;
 use frame::wire::HEAD;
-ghost use Prim.Native.Nat.{_≤_, _-_};
+ghost use Prim.Native.Nat.{_-_, _≤_};
 ghost use lib.ListN.{length};
 ghost use mathlib.Core.Bool.{true};
+ghost use mathlib.Core.List.{[]};
 ghost use mathlib.Core.Path.{_≡_};
-ghost use Rattle.printer.specs.Answer.{Tells, Untold};
-ghost use Rattle.printer.specs.Request.{ask-clock, ask-counter, ask-message, ask-table};
-ghost use Rattle.printer.specs.State.{Printer, printer-of, state-size, valid-state};
+ghost use Rattle.frame.specs.Build.{frame};
+ghost use Rattle.content.specs.Content.{longest-message};
+ghost use Rattle.printer.specs.Answer.{Tells, TellsOrder, Untold};
+ghost use Rattle.printer.specs.Clock.{clock-text, table-text};
+ghost use Rattle.printer.specs.Jet.{jet-of, jet-size};
+ghost use Rattle.printer.specs.Request.{TellsJet, request-order};
+ghost use Rattle.printer.specs.State.{printer-of, valid-state};
 ghost use Rattle.printer.specs.Receive.{answer-size};
+ghost use Rattle.printer.specs.declared.request.Request.the-variants.{Counter, Message};
 
 // A number, and for 0 how many bytes the frame has.
 pub(crate) struct Told {
     pub number: u8,
     pub size: usize,
+}
+
+// What a frame asks of the jet that it names: 39h its counter, 43h its message.
+pub(crate) enum Request {
+    Counter,
+    Message,
 }
 
 // What is refused has no frame.
@@ -38,16 +50,10 @@ fn refused(number: u8) -> Told
 }
 
 // 39h: the counter's digits, and the batch in three bytes.
-pub(crate) fn ask_counter(state: &[u8], d: &[u8], out: &mut [u8]) -> Told
-    requires { ⌜ (length (now state) ≡ state-size) × (1 ≤ length (now d)) × (answer-size - 1 ≤ length (now out)) ⌝ }
-    ensures { λ r. ⌜ Tells (ask-counter (printer-of (now (state .entry))) (now (d .entry))) (now (out .entry)) r (now (out .exit)) ⌝ }
+fn ask_counter(jet: &[u8], out: &mut [u8]) -> Told
+    requires { ⌜ (length (now jet) ≡ jet-size) × (answer-size - 1 ≤ length (now out)) ⌝ }
+    ensures { λ r. ⌜ TellsJet Counter (now (jet .entry)) (now (out .entry)) r (now (out .exit)) ⌝ }
 {
-    let at = place_in(state, d);
-    if at == 0 {
-        return refused(8);
-    }
-    let end = at + JET;
-    let jet = &state[at..end];
     if !has_parameters(jet) {
         return refused(11);
     }
@@ -60,16 +66,10 @@ pub(crate) fn ask_counter(state: &[u8], d: &[u8], out: &mut [u8]) -> Told
 }
 
 // 43h: the parameters, and the message behind them, copied from the jet to where the frame has them.
-pub(crate) fn ask_message(state: &[u8], d: &[u8], out: &mut [u8]) -> Told
-    requires { ⌜ (valid-state (now state) ≡ true) × (1 ≤ length (now d)) × (answer-size - 1 ≤ length (now out)) ⌝ }
-    ensures { λ r. ⌜ Tells (ask-message (printer-of (now (state .entry))) (now (d .entry))) (now (out .entry)) r (now (out .exit)) ⌝ }
+fn ask_message(jet: &[u8], out: &mut [u8]) -> Told
+    requires { ⌜ (length (now jet) ≡ jet-size) × (jet-of (now jet) .length ≤ longest-message) × (answer-size - 1 ≤ length (now out)) ⌝ }
+    ensures { λ r. ⌜ TellsJet Message (now (jet .entry)) (now (out .entry)) r (now (out .exit)) ⌝ }
 {
-    let at = place_in(state, d);
-    if at == 0 {
-        return refused(8);
-    }
-    let end = at + JET;
-    let jet = &state[at..end];
     if !has_message(jet) {
         return refused(11);
     }
@@ -87,10 +87,27 @@ pub(crate) fn ask_message(state: &[u8], d: &[u8], out: &mut [u8]) -> Told
     }
 }
 
+// The jet that a frame names.
+pub(crate) fn request_order(state: &[u8], what: Request, d: &[u8], out: &mut [u8]) -> Told
+    requires { ⌜ (valid-state (now state) ≡ true) × (1 ≤ length (now d)) × (answer-size - 1 ≤ length (now out)) ⌝ }
+    ensures { λ r. ⌜ TellsOrder (request-order what (printer-of (now (state .entry))) (now (d .entry))) (now (out .entry)) r (now (out .exit)) ⌝ }
+{
+    let at = place_in(state, d);
+    if at == 0 {
+        return refused(8);
+    }
+    let end = at + JET;
+    let jet = &state[at..end];
+    match what {
+        Request::Counter => ask_counter(jet, out),
+        Request::Message => ask_message(jet, out),
+    }
+}
+
 // 52h.
 pub(crate) fn ask_table(out: &mut [u8]) -> Told
     requires { ⌜ answer-size - 1 ≤ length (now out) ⌝ }
-    ensures { λ r. ⌜ ((p : Printer) → Tells (ask-table p) (now (out .entry)) r (now (out .exit))) ⌝ }
+    ensures { λ r. ⌜ Tells [] (frame 0x52 table-text) (now (out .entry)) r (now (out .exit)) ⌝ }
 {
     let text = TABLE;
     answer(out, 0x52, &text);
@@ -103,7 +120,7 @@ pub(crate) fn ask_table(out: &mut [u8]) -> Told
 // D6h.
 pub(crate) fn ask_clock(state: &[u8], out: &mut [u8]) -> Told
     requires { ⌜ (valid-state (now state) ≡ true) × (answer-size - 1 ≤ length (now out)) ⌝ }
-    ensures { λ r. ⌜ Tells (ask-clock (printer-of (now (state .entry)))) (now (out .entry)) r (now (out .exit)) ⌝ }
+    ensures { λ r. ⌜ Tells [] (frame 0x9C (clock-text (printer-of (now (state .entry)) .clock))) (now (out .entry)) r (now (out .exit)) ⌝ }
 {
     let text = clock_text(clock(state));
     answer(out, 0x9C, &text);

@@ -1,93 +1,48 @@
--- `printer::change::set_both` meets its contract: its tests are the rule's in the rule's order, and behind them the jet's part takes message and parameters.
+-- `printer::change::set_both` meets its contract: its tests are the rule's in the rule's order, and behind them the jet takes parameters and message.
 use mathlib.Core.Bool.{true}
 use mathlib.Core.Path.{_≡_}
 use borrow.Author.Needs.{needs}
 use lib.ListN.{drop}
 use Rattle.frame.proofs.Ground.{lent-tail}
 use Rattle.content.specs.Content.{is-content}
-use Rattle.printer.specs.Jet.{Jet, good-parameters}
-use Rattle.printer.specs.Order.{jet-number}
-use Rattle.printer.specs.Change.{parameters-in, with-both, set-both}
 use Rattle.printer.proofs.Valid.{content-short}
-use Rattle.printer.proofs.Orders.{denied, granted, here, past, end, holds, refused, obeyed}
-use Rattle.printer.proofs.Part.{Stands, part-size, part-written, not-named, named, stands}
+use Rattle.printer.proofs.Orders.{denied, granted, here, past, end, holds, jet-refused, jet-becomes}
 use Rattle.printer.proofs.change.set_both.Statement.{statement}
 use Rattle.printer.proofs.change.set_both.Tie as tie
 
-jet : (c : tie.Else1) → let a = c .before .before .before .before .before .args in Stands (a .state .now) (jet-number (a .d .now)) (c .before .place-in .result)
-jet c = stands (c .before .place-in .ensures) (c .if1 .left) (c .before .before .before .before .before .pre .0) (c .before .before .before .before .slice-known .given)
-
-good : (c : tie.Else2) → good-parameters (parameters-in (c .before .before .before .before .before .before .before .before .args .d .now)) ≡ true
-good c = granted (c .before .good-parameters .ensures) (c .if2 .left)
-
-content : (c : tie.Else3) → is-content (drop 38 (c .before .before .before .before .before .before .before .before .before .before .before .args .d .now)) ≡ true
-content c = granted (rw lent-tail at (c .before .is-content .ensures)) (c .if3 .left)
-
 returns : tie.Need-returns
-unfolding set-both
-returns c = refused (here (not-named (c .before .place-in .ensures) (c .if1 .taken)))
+returns c = jet-refused (here (denied (c .before .good-parameters .ensures) (c .if1 .taken)))
 
 returns-2 : tie.Need-returns-2
-unfolding set-both
-returns-2 c =
-    let at-place-in = c .before .before .before .before in
-    refused (past (named (at-place-in .place-in .ensures) (c .before .before .before .if1 .left))
-    (here (denied (c .before .good-parameters .ensures) (c .if2 .taken))))
-
-returns-3 : tie.Need-returns-3
-unfolding set-both
-returns-3 c =
-    let at-if1 = c .before .before .before .before .before .before in
-    let at-place-in = at-if1 .before in
-    refused (past (named (at-place-in .place-in .ensures) (at-if1 .if1 .left))
-    (past (good (c .before .before .before))
-    (here (denied (rw lent-tail at (c .before .is-content .ensures)) (c .if3 .taken)))))
+returns-2 c = jet-refused (past (granted (c .before .before .before .good-parameters .ensures) (c .before .before .if1 .left)) (here (denied (rw lent-tail at (c .before .is-content .ensures)) (c .if2 .taken))))
 
 put-both-requires : tie.Need-put-both-requires
-put-both-requires c κs =
-    let at-if2 = c .before .before .before .before in
-    let at-if1 = at-if2 .before .before .before in (
-      part-size (jet at-if1),
-      search needs,
-      good at-if2,
-      rw lent-tail (content-short _ (content (c .before))),
-    )
+put-both-requires c κs = (
+  search needs,
+  search needs,
+  granted (c .before .before .before .before .good-parameters .ensures) (c .before .before .before .if1 .left),
+  rw lent-tail (content-short _ (granted (rw lent-tail at (c .before .before .is-content .ensures)) (c .before .if2 .left))),
+)
 
-returns-4 : tie.Need-returns-4
-unfolding set-both
-returns-4 c =
-    let at-if3 = c .before .before .before .before in
-    let at-if2 = at-if3 .before .before .before in
-    let at-if1 = at-if2 .before .before .before in
-    let at-place-in = at-if1 .before in
-    let s = at-place-in .before .before .before .before in
-    let d = s .args .d .now in
-    obeyed (holds (named (at-place-in .place-in .ensures) (at-if1 .if1 .left)) (holds (good at-if2) (holds (content at-if3) end)))
-    (part-written (jet at-if1) (λ (j : Jet). with-both j (parameters-in d) (drop 38 d)) (rw lent-tail at (c .before .before .put-both .ensures)))
+returns-3 : tie.Need-returns-3
+returns-3 c =
+    jet-becomes (holds (granted (c .before .before .before .before .before .before .before .good-parameters .ensures) (c .before .before .before .before .before .before .if1 .left)) (holds (granted (rw lent-tail at (c .before .before .before .before .before .is-content .ensures)) (c .before .before .before .before .if2 .left)) end))
+    (rw lent-tail at (c .before .before .put-both .ensures))
 
 pub set-both-spec : {M : Type 1} → statement M
 set-both-spec =
     tie.close
     (tie.spec
-    (λ c κs. search needs)
     (λ c. search needs)
+    (λ c. search needs)
+    (λ c. search needs)
+    (λ c. search needs)
+    (λ c. search needs)
+    (λ c. search needs)
+    (λ c κs. search needs)
     returns
-    (λ c. search needs)
-    (λ c. search needs)
-    (λ c. search needs)
     (λ c κs. search needs)
-    (λ c. search needs)
     returns-2
-    (λ c. search needs)
-    (λ c. search needs)
-    (λ c. search needs)
-    (λ c κs. search needs)
-    (λ c. search needs)
-    returns-3
-    (λ c. search needs)
-    (λ c. search needs)
-    (λ c. search needs)
-    (λ c. search needs)
     put-both-requires
     (λ c. search needs)
-    returns-4)
+    returns-3)

@@ -1,9 +1,9 @@
 -- `printer::clock::entries` meets its contract. A real moment's month is from 1 to 12, so its entry has its three letters, and the digits
 -- are those that `tens` and `ones` tell.
 use mathlib.Core.Path.{_≡_}
+use borrow.Author.Needs.{needs}
 use lib.ListN.{length}
 use Rattle.printer.proofs.Moments.{moment-entries, real-month}
-use borrow.Author.Needs.{needs}
 use Rattle.printer.proofs.clock.entries.Statement.{statement}
 use Rattle.printer.proofs.clock.entries.Tie as tie
 
@@ -15,15 +15,14 @@ month-entry-requires c κs = real-month (c .before .args .c) (c .before .pre)
 
 returns : tie.Need-returns
 returns c =
-    let c5 = c .before in
-    let c4 = c5 .before in
-    let c3 = c4 .before in
-    let c2 = c3 .before in
-    let c1 = c2 .before in
-    let told = c1 .before in
-    let start = told .before .before in
-    rw (c1 .tens .ensures, c2 .ones .ensures, c3 .tens2 .ensures, c4 .ones2 .ensures, c5 .tens3 .ensures, c .ones3 .ensures)
-    (moment-entries (start .args .c) (told .month-entry .result) (three-letters told) (told .month-entry .ensures))
+    let at-ones2 = c .before .before in
+    let at-tens2 = at-ones2 .before in
+    let at-ones = at-tens2 .before in
+    let at-tens = at-ones .before in
+    let at-month-entry = at-tens .before in
+    let s = at-month-entry .before .before in
+    rw (at-tens .tens .ensures, at-ones .ones .ensures, at-tens2 .tens2 .ensures, at-ones2 .ones2 .ensures, c .before .tens3 .ensures, c .ones3 .ensures)
+    (moment-entries (s .args .c) (at-month-entry .month-entry .result) (three-letters at-month-entry) (at-month-entry .month-entry .ensures))
 
 pub entries-spec : {M : Type 1} → statement M
 entries-spec =
@@ -31,12 +30,21 @@ entries-spec =
     (tie.spec
     month-entry-requires
     (λ c κs. search needs)
+    (λ c. search needs)
     (λ c κs. search needs)
+    (λ c. search needs)
     (λ c κs. search needs)
+    (λ c. search needs)
     (λ c κs. search needs)
     (λ c. search needs)
     (λ c. search needs)
     (λ c. search needs)
+    (λ c. search needs)
+    (λ c. search needs)
+    (λ c. search needs)
+    (λ c. search needs)
     (λ c κs. search needs)
+    (λ c. search needs)
     (λ c κs. search needs)
+    (λ c. search needs)
     returns)

@@ -3,10 +3,10 @@ use Prim.Native.Nat.{_+_, _-_}
 use mathlib.Core.Path.{_≡_}
 use borrow.Author.Needs.{needs}
 use borrow.Rule.Slice.PartMut.{putMid}
-use Rattle.content.specs.Edit.{number}
+use Rattle.content.specs.Edit.{edit-tests, number}
 use Rattle.content.specs.declared.edit.Edited.{Edited}
-use Rattle.printer.specs.Jet.{jet-of}
-use Rattle.printer.specs.Change.{EditsJet}
+use Rattle.printer.specs.Jet.{message, jet-of}
+use Rattle.printer.specs.Change.{BecomesJet, edited-jet}
 use Rattle.printer.proofs.Jets.{edited-left}
 use Rattle.printer.proofs.jet.edit_jet.Statement.{statement}
 use Rattle.printer.proofs.jet.edit_jet.Tie as tie
@@ -14,7 +14,8 @@ use Rattle.printer.proofs.jet.edit_jet.Tie as tie
 -- What each answer leaves, when the message is back.
 left : (c : tie.After-slice-known2) {x : Edited} → c .before .before .edit .result ≡ x
     → let entry = c .before .before .before .before .before .before .before .before in
-    EditsJet (jet-of (entry .args .jet .now)) (entry .args .address) (entry .args .symbols .now) (entry .args .jet .now) (number x)
+    BecomesJet (edit-tests (message (jet-of (entry .args .jet .now))) (entry .args .address) (entry .args .symbols .now))
+    (edited-jet (jet-of (entry .args .jet .now)) (entry .args .address) (entry .args .symbols .now)) (entry .args .jet .now) (number x)
     (putMid 2 (2 + c .before .before .before .before .message-length .result - 2) (entry .args .jet .now) (c .before .before .edit .last .0))
 left c told =
     let entry = c .before .before .before .before .before .before .before .before in

@@ -7,18 +7,23 @@ use native.Mathlib.Omega.{arith}
 use borrow.Author.Needs.{needs}
 use borrow.Author.Tests.{leb-true, eqb-true}
 use borrow.Rule.Slice.PartMut.{midOf, putMid}
+use lib.Dec.{eqb}
 use lib.ListN.{length, length-drop}
 use Rattle.frame.specs.Wire.{fits, size-of}
 use Rattle.frame.proofs.Ground.{tests, lent-tail}
 use Rattle.printer.specs.State.{Printer, printer-of, valid-state}
 use Rattle.printer.specs.Order.{Order, Obeys}
-use Rattle.printer.specs.Answer.{Settles, Tells}
+use Rattle.printer.specs.Change.{set-message, set-parameters, set-both, edit-message}
+use Rattle.printer.specs.Request.{ask-counter, ask-message, ask-table, ask-clock}
+use Rattle.printer.specs.Answer.{Settles, TellsOrder}
 use Rattle.printer.specs.Receive.{Meets, obeyed, order}
 use Rattle.printer.specs.declared.answer.Answered.{Answered}
+use Rattle.printer.specs.declared.change.Change.the-variants.{Message, Parameters, Both, Characters}
+use Rattle.printer.specs.declared.request.Request.the-variants as request
 use Rattle.printer.specs.declared.request.Told.{Told}
 use Rattle.printer.proofs.Numbers.{Bytes}
 use Rattle.printer.proofs.Memory.{state-back}
-use Rattle.printer.proofs.Said.{Changes, Asks, meets-same, meets-changed, meets-told, told-fits, message-changes, parameters-change, both-change, edit-changes, counter-asks, message-asks, table-asks, clock-asks}
+use Rattle.printer.proofs.Said.{Changes, Asks, meets-same, meets-changed, meets-told, told-fits, change-changes, request-asks, table-asks, clock-asks}
 use Rattle.printer.proofs.Valid.{valid-size}
 use Rattle.printer.proofs.receive.obey.Statement.{statement}
 use Rattle.printer.proofs.receive.obey.Tie as tie
@@ -37,7 +42,7 @@ changed m k d {consumed = consumed} strips e x h o s =
 
 asked : (m : List ℕ) (identifier k : ℕ) (d : List ℕ) {consumed : ℕ} {answer : List ℕ} (strips : List ℕ) {t : Told} {last : List ℕ} {a : Answered} {answer′ : List ℕ}
     → order (printer-of m) identifier d ≡ order (printer-of m) k d → Asks (printer-of m) (order (printer-of m) k d) → valid-state m ≡ true → Bytes m → 554 ≤ length answer
-    → Tells (order (printer-of m) k d) (midOf 1 (length answer - 1) answer) t last → Settles (t .number) consumed (t .size) (putMid 1 (length answer - 1) answer last) a answer′
+    → TellsOrder (order (printer-of m) k d) (midOf 1 (length answer - 1) answer) t last → Settles (t .number) consumed (t .size) (putMid 1 (length answer - 1) answer last) a answer′
     → Meets (obeyed (printer-of m) (order (printer-of m) identifier d) consumed) m answer strips a m answer′ strips
 asked m identifier k d {consumed = consumed} strips e x v f h o s =
     meets-same (ap (λ (o : Order). obeyed (printer-of m) o consumed) e)
@@ -54,171 +59,194 @@ last-row p identifier d n₁ n₂ n₃ n₄ n₅ n₆ n₇ n₈ = search tests
 room : (answer : List ℕ) → 554 ≤ length answer → 553 ≤ length (midOf 1 (length answer - 1) answer)
 room answer h = rw lent-tail (simp length-drop (omega arith))
 
-set-message-requires : tie.Need-set-message-requires
+exactly : {n k : ℕ} → eqb n k ≡ true → k ≤ n
+exactly {n} {k} h = let e = eqb-true n k h in omega arith
+
+change-order-requires : tie.Need-change-order-requires
 unfolding size-of
-set-message-requires c κs =
-    let s = c .before .before .before .before .before .before in (
-      valid-size (s .args .state .now) (s .pre .0),
-      leb-true 2 (length (s .args .d .now)) (row (s .args .identifier) 0x0A (length (s .args .d .now)) (c .before .if1 .taken) (s .pre .3)),
-    )
+change-order-requires c κs =
+    let s = c .before .before .before .before .before .before in
+    (s .pre .0, leb-true 2 _ (row (s .args .identifier) 0x0A (length (s .args .d .now)) (c .before .if1 .taken) (s .pre .3)))
 
 returns : tie.Need-returns
-unfolding order
+unfolding order set-message
 returns c =
-    let s = c .before .before .before .before .before .before .before .before .before .before .before .before .before in
-    changed (s .args .state .now) 0x0A (s .args .d .now) (s .args .strips .now) (c .before .before .before .before .before .before .before .before .if1 .taken)
-    (message-changes _ _) (s .pre .1) (c .before .before .before .before .before .before .set-message .ensures) (c .before .before .settle .ensures)
+    let at-settle = c .before .before in
+    let at-change-order = at-settle .before .before .before .before in
+    let at-if1 = at-change-order .before .before in
+    let s = at-if1 .before .before .before .before .before in
+    changed (s .args .state .now) 0x0A (s .args .d .now) (s .args .strips .now) (at-if1 .if1 .taken) (change-changes Message (printer-of (s .args .state .now)) (s .args .d .now)) (s .pre .1)
+    (at-change-order .change-order .ensures) (at-settle .settle .ensures)
 
-set-parameters-requires : tie.Need-set-parameters-requires
+change-order-requires-2 : tie.Need-change-order-requires-2
 unfolding size-of
-set-parameters-requires c κs =
-    let s = c .before .before .before .before .before .before .before in (
-      valid-size (s .args .state .now) (s .pre .0),
-      let e = eqb-true (length (s .args .d .now)) 38 (row (s .args .identifier) 0x0B (length (s .args .d .now)) (c .before .if2 .taken) (s .pre .3)) in omega
-          arith,
-    )
+change-order-requires-2 c κs =
+    let s = c .before .before .before .before .before .before .before in
+    (s .pre .0, exactly (row (s .args .identifier) 0x0B (length (s .args .d .now)) (c .before .if2 .taken) (s .pre .3)))
 
 returns-2 : tie.Need-returns-2
-unfolding order
+unfolding order set-parameters
 returns-2 c =
-    let s = c .before .before .before .before .before .before .before .before .before .before .before .before .before .before in
-    changed (s .args .state .now) 0x0B (s .args .d .now) (s .args .strips .now) (c .before .before .before .before .before .before .before .before .if2 .taken)
-    (parameters-change _ _) (s .pre .1) (c .before .before .before .before .before .before .set-parameters .ensures) (c .before .before .settle2 .ensures)
+    let at-settle2 = c .before .before in
+    let at-change-order2 = at-settle2 .before .before .before .before in
+    let at-if2 = at-change-order2 .before .before in
+    let s = at-if2 .before .before .before .before .before .before in
+    changed (s .args .state .now) 0x0B (s .args .d .now) (s .args .strips .now) (at-if2 .if2 .taken) (change-changes Parameters (printer-of (s .args .state .now)) (s .args .d .now)) (s .pre .1)
+    (at-change-order2 .change-order2 .ensures) (at-settle2 .settle2 .ensures)
 
-set-both-requires : tie.Need-set-both-requires
+change-order-requires-3 : tie.Need-change-order-requires-3
 unfolding size-of
-set-both-requires c κs =
-    let s = c .before .before .before .before .before .before .before .before in (
-      valid-size (s .args .state .now) (s .pre .0),
-      leb-true 39 (length (s .args .d .now)) (row (s .args .identifier) 0x0C (length (s .args .d .now)) (c .before .if3 .taken) (s .pre .3)),
-    )
+change-order-requires-3 c κs =
+    let s = c .before .before .before .before .before .before .before .before in
+    (s .pre .0, leb-true 39 _ (row (s .args .identifier) 0x0C (length (s .args .d .now)) (c .before .if3 .taken) (s .pre .3)))
 
 returns-3 : tie.Need-returns-3
-unfolding order
+unfolding order set-both
 returns-3 c =
-    let s = c .before .before .before .before .before .before .before .before .before .before .before .before .before .before .before in
-    changed (s .args .state .now) 0x0C (s .args .d .now) (s .args .strips .now) (c .before .before .before .before .before .before .before .before .if3 .taken)
-    (both-change _ _) (s .pre .1) (c .before .before .before .before .before .before .set-both .ensures) (c .before .before .settle3 .ensures)
+    let at-settle3 = c .before .before in
+    let at-change-order3 = at-settle3 .before .before .before .before in
+    let at-if3 = at-change-order3 .before .before in
+    let s = at-if3 .before .before .before .before .before .before .before in
+    changed (s .args .state .now) 0x0C (s .args .d .now) (s .args .strips .now) (at-if3 .if3 .taken) (change-changes Both (printer-of (s .args .state .now)) (s .args .d .now)) (s .pre .1)
+    (at-change-order3 .change-order3 .ensures) (at-settle3 .settle3 .ensures)
 
-ask-counter-requires : tie.Need-ask-counter-requires
+request-order-requires : tie.Need-request-order-requires
 unfolding size-of
-ask-counter-requires c κs =
-    let s = c .before .before .before .before .before .before .before .before .before .before in (
-      valid-size (s .args .state .now) (s .pre .0),
-      let e = eqb-true (length (s .args .d .now)) 1 (row (s .args .identifier) 0x39 (length (s .args .d .now)) (c .before .before .if4 .taken) (s .pre .3)) in
-          omega arith,
-      room (s .args .answer .now) (s .pre .1),
-    )
+request-order-requires c κs =
+    let at-if4 = c .before .before in
+    let s = at-if4 .before .before .before .before .before .before .before .before in
+    (s .pre .0, exactly (row (s .args .identifier) 0x39 (length (s .args .d .now)) (at-if4 .if4 .taken) (s .pre .3)), room (s .args .answer .now) (s .pre .1))
 
 settle-requires-4 : tie.Need-settle-requires-4
 settle-requires-4 c κs =
-    told-fits (c .before .before .before .before .before .before .before .before .before .before .before .before .before .before .args .answer .now)
-    (c .before .before .before .ask-counter .ensures) (omega arith) (c .before .before .answer4 .given .1)
+    let at-answer4 = c .before .before in
+    let at-request-order = at-answer4 .before in
+    let s = at-request-order .before .before .before .before .before .before .before .before .before .before .before in
+    told-fits (s .args .answer .now) (at-request-order .request-order .ensures) (omega arith) (at-answer4 .answer4 .given .1)
 
 returns-4 : tie.Need-returns-4
-unfolding order
+unfolding order ask-counter
 returns-4 c =
-    let s = c .before .before .before .before .before .before .before .before .before .before .before .before .before .before .before .before .before in
+    let at-settle4 = c .before .before in
+    let at-request-order = at-settle4 .before .before .before .before in
+    let at-if4 = at-request-order .before .before .before in
+    let at-slice-known = at-if4 .before .before .before .before .before .before .before in
+    let s = at-slice-known .before in
     asked (s .args .state .now) (s .args .identifier) 0x39 (s .args .d .now) (s .args .strips .now)
-    (at-row (printer-of (s .args .state .now)) 0x39 (s .args .d .now) (c .before .before .before .before .before .before .before .before .before .if4 .taken))
-    (counter-asks _ _) (s .pre .0)
-    (c .before .before .before .before .before .before .before .before .before .before .before .before .before .before .before .before .slice-known .given)
-    (s .pre .1) (c .before .before .before .before .before .before .ask-counter .ensures) (c .before .before .settle4 .ensures)
+    (at-row (printer-of (s .args .state .now)) 0x39 (s .args .d .now) (at-if4 .if4 .taken)) (request-asks request.Counter (printer-of (s .args .state .now)) (s .args .d .now)) (s .pre .0) (at-slice-known .slice-known .given) (s .pre .1)
+    (at-request-order .request-order .ensures) (at-settle4 .settle4 .ensures)
 
-edit-message-requires : tie.Need-edit-message-requires
+change-order-requires-4 : tie.Need-change-order-requires-4
 unfolding size-of
-edit-message-requires c κs =
+change-order-requires-4 c κs =
     let s = c .before .before .before .before .before .before .before .before .before .before in
-    (s .pre .0, leb-true 4 (length (s .args .d .now)) (row (s .args .identifier) 0x42 (length (s .args .d .now)) (c .before .if5 .taken) (s .pre .3)))
+    (s .pre .0, leb-true 4 _ (row (s .args .identifier) 0x42 (length (s .args .d .now)) (c .before .if5 .taken) (s .pre .3)))
 
 returns-5 : tie.Need-returns-5
-unfolding order
+unfolding order edit-message
 returns-5 c =
-    let s = c .before .before .before .before .before .before .before .before .before .before .before .before .before .before .before .before .before in
-    changed (s .args .state .now) 0x42 (s .args .d .now) (s .args .strips .now) (c .before .before .before .before .before .before .before .before .if5 .taken)
-    (edit-changes _ _) (s .pre .1) (c .before .before .before .before .before .before .edit-message .ensures) (c .before .before .settle5 .ensures)
+    let at-settle5 = c .before .before in
+    let at-change-order4 = at-settle5 .before .before .before .before in
+    let at-if5 = at-change-order4 .before .before in
+    let s = at-if5 .before .before .before .before .before .before .before .before .before in
+    changed (s .args .state .now) 0x42 (s .args .d .now) (s .args .strips .now) (at-if5 .if5 .taken) (change-changes Characters (printer-of (s .args .state .now)) (s .args .d .now)) (s .pre .1)
+    (at-change-order4 .change-order4 .ensures) (at-settle5 .settle5 .ensures)
 
-ask-message-requires : tie.Need-ask-message-requires
+request-order-requires-2 : tie.Need-request-order-requires-2
 unfolding size-of
-ask-message-requires c κs =
-    let s = c .before .before .before .before .before .before .before .before .before .before .before .before in (
-      s .pre .0,
-      let e = eqb-true (length (s .args .d .now)) 1 (row (s .args .identifier) 0x43 (length (s .args .d .now)) (c .before .before .if6 .taken) (s .pre .3)) in
-          omega arith,
-      room (s .args .answer .now) (s .pre .1),
-    )
+request-order-requires-2 c κs =
+    let at-if6 = c .before .before in
+    let s = at-if6 .before .before .before .before .before .before .before .before .before .before in
+    (s .pre .0, exactly (row (s .args .identifier) 0x43 (length (s .args .d .now)) (at-if6 .if6 .taken) (s .pre .3)), room (s .args .answer .now) (s .pre .1))
 
 settle-requires-6 : tie.Need-settle-requires-6
 settle-requires-6 c κs =
-    told-fits
-    (c .before .before .before .before .before .before .before .before .before .before .before .before .before .before .before .before .args .answer .now)
-    (c .before .before .before .ask-message .ensures) (omega arith) (c .before .before .answer7 .given .1)
+    let at-answer7 = c .before .before in
+    let at-request-order2 = at-answer7 .before in
+    let s = at-request-order2 .before .before .before .before .before .before .before .before .before .before .before .before .before in
+    told-fits (s .args .answer .now) (at-request-order2 .request-order2 .ensures) (omega arith) (at-answer7 .answer7 .given .1)
 
 returns-6 : tie.Need-returns-6
-unfolding order
+unfolding order ask-message
 returns-6 c =
-    let s = c .before .before .before .before .before .before .before .before .before .before .before .before .before .before .before .before .before .before .before in
+    let at-settle6 = c .before .before in
+    let at-request-order2 = at-settle6 .before .before .before .before in
+    let at-if6 = at-request-order2 .before .before .before in
+    let at-slice-known = at-if6 .before .before .before .before .before .before .before .before .before in
+    let s = at-slice-known .before in
     asked (s .args .state .now) (s .args .identifier) 0x43 (s .args .d .now) (s .args .strips .now)
-    (at-row (printer-of (s .args .state .now)) 0x43 (s .args .d .now) (c .before .before .before .before .before .before .before .before .before .if6 .taken))
-    (message-asks _ _) (s .pre .0)
-    (c .before .before .before .before .before .before .before .before .before .before .before .before .before .before .before .before .before .before .slice-known .given)
-    (s .pre .1) (c .before .before .before .before .before .before .ask-message .ensures) (c .before .before .settle6 .ensures)
+    (at-row (printer-of (s .args .state .now)) 0x43 (s .args .d .now) (at-if6 .if6 .taken)) (request-asks request.Message (printer-of (s .args .state .now)) (s .args .d .now)) (s .pre .0) (at-slice-known .slice-known .given) (s .pre .1)
+    (at-request-order2 .request-order2 .ensures) (at-settle6 .settle6 .ensures)
 
 settle-requires-7 : tie.Need-settle-requires-7
 settle-requires-7 c κs =
-    let s = c .before .before .before .before .before .before .before .before .before .before .before .before .before .before .before .before in
-    told-fits (s .args .answer .now) (c .before .before .before .ask-table .ensures (printer-of (s .args .state .now))) (omega arith)
-    (c .before .before .answer9 .given .1)
+    let at-answer9 = c .before .before in
+    let at-ask-table = at-answer9 .before in
+    let s = at-ask-table .before .before .before .before .before .before .before .before .before .before .before .before .before in
+    told-fits (s .args .answer .now) (at-ask-table .ask-table .ensures) (omega arith) (at-answer9 .answer9 .given .1)
 
 returns-7 : tie.Need-returns-7
-unfolding order
+unfolding order ask-table
 returns-7 c =
-    let s = c .before .before .before .before .before .before .before .before .before .before .before .before .before .before .before .before .before .before .before in
+    let at-settle7 = c .before .before in
+    let at-ask-table = at-settle7 .before .before .before .before in
+    let at-if7 = at-ask-table .before .before in
+    let at-slice-known = at-if7 .before .before .before .before .before .before .before .before .before .before in
+    let s = at-slice-known .before in
     asked (s .args .state .now) (s .args .identifier) 0x52 (s .args .d .now) (s .args .strips .now)
-    (at-row (printer-of (s .args .state .now)) 0x52 (s .args .d .now) (c .before .before .before .before .before .before .before .before .if7 .taken))
-    (table-asks _) (s .pre .0)
-    (c .before .before .before .before .before .before .before .before .before .before .before .before .before .before .before .before .before .before .slice-known .given)
-    (s .pre .1) (c .before .before .before .before .before .before .ask-table .ensures (printer-of (s .args .state .now))) (c .before .before .settle7 .ensures)
+    (at-row (printer-of (s .args .state .now)) 0x52 (s .args .d .now) (at-if7 .if7 .taken)) (table-asks _) (s .pre .0) (at-slice-known .slice-known .given) (s .pre .1)
+    (at-ask-table .ask-table .ensures) (at-settle7 .settle7 .ensures)
 
 returns-8 : tie.Need-returns-8
 unfolding order
 returns-8 c =
-    let s = c .before .before .before .before .before .before .before .before .before .before .before .before .before .before .before .before .before .before .before .before .before .before in
-    meets-same
-    (ap (λ (o : Order). obeyed (printer-of (s .args .state .now)) o (s .args .consumed)) (at-row (printer-of (s .args .state .now)) 0x94 (s .args .d .now) (c .before .before .before .before .before .before .before .before .before .before .if8 .taken)))
-    (c .before .before .before .before .before .before .print .ensures)
+    let at-print = c .before .before .before .before .before .before in
+    let at-if8 = at-print .before .before .before .before in
+    let s = at-if8 .before .before .before .before .before .before .before .before .before .before .before .before in
+    meets-same (ap (λ (o : Order). obeyed (printer-of (s .args .state .now)) o (s .args .consumed)) (at-row (printer-of (s .args .state .now)) 0x94 (s .args .d .now) (at-if8 .if8 .taken)))
+    (at-print .print .ensures)
 
 settle-requires-8 : tie.Need-settle-requires-8
 settle-requires-8 c κs =
-    told-fits
-    (c .before .before .before .before .before .before .before .before .before .before .before .before .before .before .before .before .before .before .args .answer .now)
-    (c .before .before .before .ask-clock .ensures) (omega arith) (c .before .before .answer12 .given .1)
+    let at-answer12 = c .before .before in
+    let at-ask-clock = at-answer12 .before in
+    let s = at-ask-clock .before .before .before .before .before .before .before .before .before .before .before .before .before .before .before in
+    told-fits (s .args .answer .now) (at-ask-clock .ask-clock .ensures) (omega arith) (at-answer12 .answer12 .given .1)
 
 returns-9 : tie.Need-returns-9
-unfolding order
+unfolding order ask-clock
 returns-9 c =
-    let s = c .before .before .before .before .before .before .before .before .before .before .before .before .before .before .before .before .before .before .before .before .before in
+    let at-settle8 = c .before .before in
+    let at-ask-clock = at-settle8 .before .before .before .before in
+    let at-if8 = at-ask-clock .before .before .before in
+    let at-if7 = at-if8 .before in
+    let at-if6 = at-if7 .before in
+    let at-if5 = at-if6 .before in
+    let at-if4 = at-if5 .before in
+    let at-if3 = at-if4 .before in
+    let at-if2 = at-if3 .before in
+    let at-if1 = at-if2 .before in
+    let at-slice-known = at-if1 .before .before .before .before in
+    let s = at-slice-known .before in
     asked (s .args .state .now) (s .args .identifier) 0xD6 (s .args .d .now) (s .args .strips .now)
-    (last-row (printer-of (s .args .state .now)) (s .args .identifier) (s .args .d .now) (c .before .before .before .before .before .before .before .before .before .before .before .before .before .before .before .before .if1 .left) (c .before .before .before .before .before .before .before .before .before .before .before .before .before .before .before .if2 .left) (c .before .before .before .before .before .before .before .before .before .before .before .before .before .before .if3 .left) (c .before .before .before .before .before .before .before .before .before .before .before .before .before .if4 .left) (c .before .before .before .before .before .before .before .before .before .before .before .before .if5 .left) (c .before .before .before .before .before .before .before .before .before .before .before .if6 .left) (c .before .before .before .before .before .before .before .before .before .before .if7 .left) (c .before .before .before .before .before .before .before .before .before .if8 .left))
-    (clock-asks _) (s .pre .0)
-    (c .before .before .before .before .before .before .before .before .before .before .before .before .before .before .before .before .before .before .before .before .slice-known .given)
-    (s .pre .1) (c .before .before .before .before .before .before .ask-clock .ensures) (c .before .before .settle8 .ensures)
+    (last-row (printer-of (s .args .state .now)) (s .args .identifier) (s .args .d .now) (at-if1 .if1 .left) (at-if2 .if2 .left) (at-if3 .if3 .left) (at-if4 .if4 .left) (at-if5 .if5 .left) (at-if6 .if6 .left) (at-if7 .if7 .left) (at-if8 .if8 .left)) (clock-asks _) (s .pre .0) (at-slice-known .slice-known .given) (s .pre .1)
+    (at-ask-clock .ask-clock .ensures) (at-settle8 .settle8 .ensures)
 
 pub obey-spec : {M : Type 1} → statement M
 obey-spec =
     tie.close
     (tie.spec
-    set-message-requires
+    change-order-requires
     (λ c κs. search needs)
     (λ c. search needs)
     (λ c. search needs)
     returns
-    set-parameters-requires
+    change-order-requires-2
     (λ c κs. search needs)
     (λ c. search needs)
     (λ c. search needs)
     returns-2
-    set-both-requires
+    change-order-requires-3
     (λ c κs. search needs)
     (λ c. search needs)
     (λ c. search needs)
@@ -226,12 +254,12 @@ obey-spec =
     (λ c. search needs)
     (λ c. search needs)
     (λ c. search needs)
-    ask-counter-requires
+    request-order-requires
     settle-requires-4
     (λ c. search needs)
     (λ c. search needs)
     returns-4
-    edit-message-requires
+    change-order-requires-4
     (λ c κs. search needs)
     (λ c. search needs)
     (λ c. search needs)
@@ -239,7 +267,7 @@ obey-spec =
     (λ c. search needs)
     (λ c. search needs)
     (λ c. search needs)
-    ask-message-requires
+    request-order-requires-2
     settle-requires-6
     (λ c. search needs)
     (λ c. search needs)

@@ -5,7 +5,6 @@ use borrow.Author.Needs.{needs}
 use lib.ListN.{length}
 use Rattle.frame.specs.Build.{frame}
 use Rattle.printer.specs.Clock.{clock-text}
-use Rattle.printer.specs.Request.{ask-clock}
 use Rattle.printer.proofs.Valid.{valid-size, valid-printer, valid-clock}
 use Rattle.printer.proofs.Orders.{end, answer-told}
 use Rattle.printer.proofs.request.ask_clock.Statement.{statement}
@@ -18,7 +17,6 @@ clock-text-requires : tie.Need-clock-text-requires
 clock-text-requires c κs = rw (c .clock .ensures) (valid-clock _ (valid-printer _ (c .before .before .before .pre .0)))
 
 returns : tie.Need-returns
-unfolding ask-clock
 returns c =
     let at-clock-text = c .before .before .before .before .before in
     let at-clock = at-clock-text .before in

@@ -1,5 +1,5 @@
--- `printer::request::ask_message` meets its contract: its tests are the rule's in the rule's order, and a valid state's message has 512
--- bytes at most, so that parameters and message fit where the frame has them.
+-- `printer::request::ask_message` meets its contract: its test is the rule's, and a message of 512 bytes at most leaves room for the
+-- parameters before it where the frame has them.
 use Prim.Native.Nat.{ℕ, _+_, _-_, _≤_}
 use mathlib.Core.Bool.{Bool, true}
 use mathlib.Core.List.{List, _++_, append-assoc}
@@ -14,13 +14,8 @@ use Rattle.frame.specs.Build.{frame, Lays, Wraps}
 use Rattle.frame.specs.declared.build.Built.{Built}
 use Rattle.frame.proofs.Ground.{laid-behind}
 use Rattle.printer.specs.Counter.{counter-of}
-use Rattle.printer.specs.Jet.{has-message, message, has-parameters, parameters, jet-size, jet-of}
-use Rattle.printer.specs.State.{printer-of}
-use Rattle.printer.specs.Order.{jet-number, jet-in}
-use Rattle.printer.specs.Request.{ask-message}
-use Rattle.printer.proofs.Valid.{valid-size, valid-printer, valid-at, jet-content, content-short}
-use Rattle.printer.proofs.Orders.{denied, granted, here, past, end, holds, untold, wrapped, told-frame}
-use Rattle.printer.proofs.Part.{Stands, part-inside, part-size, part-jet, part-short, not-named, named, stands}
+use Rattle.printer.specs.Jet.{message, parameters, jet-size, jet-of}
+use Rattle.printer.proofs.Orders.{denied, granted, here, end, holds, untold, wrapped, told-frame}
 use Rattle.printer.proofs.request.ask_message.Statement.{statement}
 use Rattle.printer.proofs.request.ask_message.Tie as tie
 
@@ -52,90 +47,38 @@ module _ (q text before : List ℕ) {last last′ after : List ℕ} {r r′ : Bo
   around : after ≡ over (frame 0x43 (q ++ text)) before
   around = wrapped 0x43 (take 3 before) (q ++ text) before c three then (simp length-append (omega arith)) (simp length-append (omega arith)) room
 
-jet : (c : tie.Else1) → let a = c .before .before .before .before .before .args in Stands (a .state .now) (jet-number (a .d .now)) (c .before .place-in .result)
-jet c = stands (c .before .place-in .ensures) (c .if1 .left) (valid-size _ (c .before .before .before .before .before .pre .0)) (c .before .before .before .before .shared-slice-known .given)
-
-tested : (c : tie.After-has-message) → let a = c .before .before .before .before .before .before .before .args in c .has-message .result ≡ has-message (jet-in (printer-of (a .state .now)) (a .d .now))
-tested c = rw (part-jet (jet (c .before .before))) at (c .has-message .ensures)
-
-filled : (c : tie.Else2) → let a = c .before .before .before .before .before .before .before .before .args in has-message (jet-in (printer-of (a .state .now)) (a .d .now)) ≡ true
-filled c = granted (tested (c .before)) (c .if2 .left)
-
-tested-2 : (c : tie.After-has-parameters) → let a = c .before .before .before .before .before .before .before .before .before .args in c .has-parameters .result ≡ has-parameters (jet-in (printer-of (a .state .now)) (a .d .now))
-tested-2 c = rw (part-jet (jet (c .before .before .before .before))) at (c .has-parameters .ensures)
-
-place-in-requires : tie.Need-place-in-requires
-place-in-requires c κs = (valid-size _ (c .before .before .before .pre .0), c .before .before .before .pre .1)
+message-short : (b : List ℕ) → jet-of b .length ≤ 512 → length (message (jet-of b)) ≤ 512
+message-short b h = simp length-take (omega arith)
 
 returns : tie.Need-returns
-unfolding ask-message
-returns c = untold (c .refused .ensures) (here (not-named (c .before .before .place-in .ensures) (c .before .if1 .taken)))
-
-part-jet-end : tie.Need-part-jet-end
-part-jet-end c = part-inside (jet c)
+returns c = untold (c .refused .ensures) (here (rw (denied (c .before .before .has-message .ensures) (c .before .if1 .taken))))
 
 returns-2 : tie.Need-returns-2
-unfolding ask-message
-returns-2 c =
-    let at-if2 = c .before in
-    let at-if1 = at-if2 .before .before .before in
-    untold (c .refused2 .ensures) (past (named (at-if1 .before .place-in .ensures) (at-if1 .if1 .left))
-    (here (rw (denied (tested (at-if2 .before)) (at-if2 .if2 .taken)))))
+returns-2 c = untold (c .refused2 .ensures) (here (rw (granted (c .before .before .before .before .has-message .ensures) (c .before .before .before .if1 .left)) (denied (c .before .before .has-parameters .ensures) (c .before .if2 .taken))))
 
 returns-3 : tie.Need-returns-3
-unfolding ask-message
 returns-3 c =
-    let at-if3 = c .before in
-    let at-if2 = at-if3 .before .before in
-    let at-if1 = at-if2 .before .before .before in
-    untold (c .refused3 .ensures) (past (named (at-if1 .before .place-in .ensures) (at-if1 .if1 .left))
-    (here (rw (filled at-if2) (denied (tested-2 (at-if3 .before)) (at-if3 .if3 .taken)))))
-
-message-requires : tie.Need-message-requires
-message-requires c κs = (part-size (jet (c .before .before .before .before .before)), part-short (jet (c .before .before .before .before .before)) (c .before .before .before .before .before .before .before .before .before .before .pre .0))
-
-returns-4 : tie.Need-returns-4
-unfolding ask-message
-returns-4 c =
-    let at-lay2 = c .before .before .before .before .before .before in
-    let at-lay = at-lay2 .before .before .before .before in
-    let at-parameters = at-lay .before in
-    let at-message = at-parameters .before .before in
-    let at-if3 = at-message .before in
-    let at-has-parameters = at-if3 .before in
-    let at-if2 = at-has-parameters .before in
-    let at-if1 = at-if2 .before .before .before in
-    let at-place-in = at-if1 .before in
-    let s = at-place-in .before .before .before .before in
-    let j = jet at-if1 in
-    let q = rw (part-jet j) at (at-parameters .parameters .ensures) in
-    let text = rw (part-jet j) at (at-message .message .ensures) in
-    let long = ap length (at-parameters .parameters .ensures) ∙ parameters-long _ (part-size j) in
-    let short = content-short _ (jet-content _ _ (valid-at _ (jet-number (s .args .d .now)) (valid-printer _ (s .pre .0)) (j .least)) (filled at-if2)) in
-    told-frame 0x43 (at-parameters .parameters .result .now ++ at-message .message .result .now)
-    (holds (named (at-place-in .place-in .ensures) (at-if1 .if1 .left)) (holds (rw (filled at-if2) (granted (tested-2 at-has-parameters) (at-if3 .if3 .left))) end))
+    let s = c .before .before .before .before .before .before .before .before .before .before .before .before .before .before .before .before .before .before .before .before in
+    let q = c .before .before .before .before .before .before .before .before .before .before .before .parameters .ensures in
+    let text = c .before .before .before .before .before .before .before .before .before .before .before .before .before .message .ensures in
+    let long = ap length q ∙ parameters-long _ (s .pre .0) in
+    told-frame 0x43 (c .before .before .before .before .before .before .before .before .before .before .before .parameters .result .now ++ c .before .before .before .before .before .before .before .before .before .before .before .before .before .message .result .now)
+    (holds (rw (granted (c .before .before .before .before .before .before .before .before .before .before .before .before .before .before .before .before .before .has-message .ensures) (c .before .before .before .before .before .before .before .before .before .before .before .before .before .before .before .before .if1 .left)) (granted (c .before .before .before .before .before .before .before .before .before .before .before .before .before .before .before .has-parameters .ensures) (c .before .before .before .before .before .before .before .before .before .before .before .before .before .before .if2 .left))) end)
     (ap₂ (λ (x y : List ℕ). frame 0x43 (x ++ y)) (sym q) (sym text))
     (simp length-append (omega (arith, long)))
-    (around (at-parameters .parameters .result .now) (at-message .message .result .now) (s .args .out .now) long (rw text short) (s .pre .2) (at-lay .lay .ensures) (at-lay2 .lay2 .ensures) (c .before .before .wrap .ensures))
+    (around (c .before .before .before .before .before .before .before .before .before .before .before .parameters .result .now) (c .before .before .before .before .before .before .before .before .before .before .before .before .before .message .result .now) (s .args .out .now) long (rw text (message-short _ (s .pre .1))) (s .pre .2) (c .before .before .before .before .before .before .before .before .before .before .lay .ensures) (c .before .before .before .before .before .before .lay2 .ensures) (c .before .before .wrap .ensures))
 
 pub ask-message-spec : {M : Type 1} → statement M
 ask-message-spec =
     tie.close
     (tie.spec
-    place-in-requires
+    (λ c κs. search needs)
     (λ c κs. search needs)
     returns
-    (λ c. search needs)
-    (λ c. search needs)
-    (λ c. search needs)
-    part-jet-end
     (λ c κs. search needs)
     (λ c κs. search needs)
     returns-2
     (λ c κs. search needs)
-    (λ c κs. search needs)
-    returns-3
-    message-requires
     (λ c. search needs)
     (λ c. search needs)
     (λ c. search needs)
@@ -150,4 +93,4 @@ ask-message-spec =
     (λ c κs. search needs)
     (λ c. search needs)
     (λ c. search needs)
-    returns-4)
+    returns-3)

@@ -3,16 +3,15 @@ use mathlib.Core.Path.{refl}
 use native.Mathlib.Omega.{arith}
 use borrow.Author.Needs.{needs}
 use Rattle.printer.specs.Clock.{table-text}
-use Rattle.printer.specs.Request.{ask-table}
 use Rattle.printer.proofs.Orders.{end, answer-told}
 use Rattle.printer.proofs.request.ask_table.Statement.{statement}
 use Rattle.printer.proofs.request.ask_table.Tie as tie
 
 returns : tie.Need-returns
-unfolding ask-table table-text
+unfolding table-text
 returns c =
     let s = c .before .before .before .before .before .before in
-    λ p. answer-told (c .before .before .answer .ensures) end refl refl (omega arith) (s .pre)
+    answer-told (c .before .before .answer .ensures) end refl refl (omega arith) (s .pre)
 
 pub ask-table-spec : {M : Type 1} → statement M
 ask-table-spec =

@@ -1,0 +1,58 @@
+-- `printer::change::change_order` meets its contract: 8 where the jet is not on the printer, and else what becomes of the jet's part.
+use Prim.Native.Nat.{ℕ, _≤_}
+use mathlib.Core.Path.{_≡_}
+use native.Mathlib.Omega.{arith}
+use borrow.Author.Needs.{needs}
+use Rattle.printer.specs.Order.{jet-number}
+use Rattle.printer.specs.Change.{least-data}
+use Rattle.printer.specs.declared.change.Change.{Change}
+use Rattle.printer.specs.declared.change.Change.the-variants.{Message, Parameters, Both, Characters}
+use Rattle.printer.proofs.Valid.{valid-size}
+use Rattle.printer.proofs.Orders.{here, refused}
+use Rattle.printer.proofs.Part.{Stands, part-inside, part-size, part-jet, part-short, part-obeys, not-named, named, stands}
+use Rattle.printer.proofs.change.change_order.Statement.{statement}
+use Rattle.printer.proofs.change.change_order.Tie as tie
+
+-- Each change has its jet number.
+at-least : (what : Change) {n : ℕ} → least-data what ≤ n → 1 ≤ n
+at-least Message h = omega arith
+at-least Parameters h = omega arith
+at-least Both h = omega arith
+at-least Characters h = omega arith
+
+jet : (c : tie.Else1) → let a = c .before .before .before .before .before .args in Stands (a .state .now) (jet-number (a .d .now)) (c .before .place-in .result)
+jet c = stands (c .before .place-in .ensures) (c .if1 .left) (valid-size _ (c .before .before .before .before .before .pre .0)) (c .before .before .before .before .slice-known .given)
+
+place-in-requires : tie.Need-place-in-requires
+place-in-requires c κs = (valid-size _ (c .before .before .before .pre .0), at-least (c .before .before .before .args .what) (c .before .before .before .pre .1))
+
+returns : tie.Need-returns
+returns c = refused (here (not-named (c .before .place-in .ensures) (c .if1 .taken)))
+
+part-change-jet-end : tie.Need-part-change-jet-end
+part-change-jet-end c = part-inside (jet c)
+
+change-jet-requires : tie.Need-change-jet-requires
+change-jet-requires c κs = let j = jet (c .before) in (part-size j, part-short j (c .before .before .before .before .before .before .pre .0), c .before .before .before .before .before .before .pre .1)
+
+returns-2 : tie.Need-returns-2
+returns-2 c =
+    let at-if1 = c .before .before .before .before in
+    let j = jet at-if1 in
+    let s = c .before .before .before .before .before .before .before .before .before in
+    part-obeys (s .args .state .now) (s .args .d .now) j (named (at-if1 .before .place-in .ensures) (at-if1 .if1 .left)) (rw (part-jet j) at (c .before .before .change-jet .ensures))
+
+pub change-order-spec : {M : Type 1} → statement M
+change-order-spec =
+    tie.close
+    (tie.spec
+    place-in-requires
+    (λ c. search needs)
+    returns
+    (λ c. search needs)
+    (λ c. search needs)
+    (λ c. search needs)
+    part-change-jet-end
+    change-jet-requires
+    (λ c. search needs)
+    returns-2)
