@@ -180,11 +180,11 @@ passed DateCloses seen = seen
 
 -- What stands at a place: for the positions; and for the strip, which asks for each code by itself.
 abbrev pub piece-at : List ℕ → ℕ → Place → Seen → Token
+piece-at s at place.Date seen = date-token s (codes-end s at)
 piece-at s at place.Content seen = content-token s at seen
 piece-at s at place.Line seen = line-token s at
 piece-at s at place.Block seen = opened s at (block-token s at (kind-of (getD s at 0)) seen) seen
 piece-at s at place.Field seen = field-token s at
-piece-at s at place.Date seen = date-token s (codes-end s at)
 
 abbrev pub token-at : List ℕ → ℕ → Place → Seen → Token
 token-at s at place.Content seen = content-token s at seen

@@ -376,6 +376,13 @@ pub(crate) fn passed(item: Item, seen: Seen) -> Seen
     }
 }
 
+// What the byte at a place is; behind the last one it is 00h.
+fn kind_at(s: &[u8], at: usize) -> Kind
+    ensures { λ r. ⌜ r ≡ kind-of (getD (now (s .entry)) at 0) ⌝ }
+{
+    kind_of(byte_at(s, at))
+}
+
 // What a byte that ends a block opens.
 fn opening(s: &[u8], at: usize, kind: Kind, seen: Seen) -> Token
     requires { ⌜ at ≤ length (now s) ⌝ }
@@ -401,50 +408,34 @@ fn opened(s: &[u8], at: usize, found: Token, seen: Seen) -> Token
 {
     match found {
         Token::Read { item, next } => Token::Read { item, next },
-        Token::Ends => opening(s, at, kind_of(byte_at(s, at)), seen),
+        Token::Ends => opening(s, at, kind_at(s, at), seen),
         Token::Unfit(i) => Token::Unfit(i),
     }
 }
 
 // What stands at a place for the positions: a date item's codes are passed with the mark behind them.
-pub(crate) fn piece_at(s: &[u8], reader: Reader) -> Token
-    requires { ⌜ reader .at ≤ length (now s) ⌝ }
-    ensures { λ r. ⌜ r ≡ piece-at (now (s .entry)) (reader .at) (reader .place) (reader .seen) ⌝ }
+pub(crate) fn piece_at(s: &[u8], at: usize, place: Place, seen: Seen) -> Token
+    requires { ⌜ at ≤ length (now s) ⌝ }
+    ensures { λ r. ⌜ r ≡ piece-at (now (s .entry)) at place seen ⌝ }
 {
-    let at = reader.at;
-    let place = reader.place;
-    let seen = reader.seen;
     match place {
+        Place::Date => date_token(s, codes_end(s, at)),
         Place::Content => content_token(s, at, seen),
         Place::Line => line_token(s, at),
-        Place::Block => opened(
-            s,
-            at,
-            block_token(s, at, kind_of(byte_at(s, at)), seen),
-            seen,
-        ),
+        Place::Block => opened(s, at, block_token(s, at, kind_at(s, at), seen), seen),
         Place::Field => field_token(s, at),
-        Place::Date => date_token(s, codes_end(s, at)),
     }
 }
 
 // What stands at a place for the strip: each code by itself.
-pub(crate) fn token_at(s: &[u8], reader: Reader) -> Token
-    requires { ⌜ reader .at ≤ length (now s) ⌝ }
-    ensures { λ r. ⌜ r ≡ token-at (now (s .entry)) (reader .at) (reader .place) (reader .seen) ⌝ }
+pub(crate) fn token_at(s: &[u8], at: usize, place: Place, seen: Seen) -> Token
+    requires { ⌜ at ≤ length (now s) ⌝ }
+    ensures { λ r. ⌜ r ≡ token-at (now (s .entry)) at place seen ⌝ }
 {
-    let at = reader.at;
-    let place = reader.place;
-    let seen = reader.seen;
     match place {
         Place::Content => content_token(s, at, seen),
         Place::Line => line_token(s, at),
-        Place::Block => opened(
-            s,
-            at,
-            block_token(s, at, kind_of(byte_at(s, at)), seen),
-            seen,
-        ),
+        Place::Block => opened(s, at, block_token(s, at, kind_at(s, at), seen), seen),
         Place::Field => field_token(s, at),
         Place::Date => date_token(s, at),
     }

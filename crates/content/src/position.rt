@@ -74,16 +74,18 @@ pub(crate) fn run_at(s: &[u8], start: Reader) -> Run
 {
     let mut reader = start;
     loop {
-        let found = piece_at(s, reader);
+        let at = reader.at;
+        let place = reader.place;
+        let seen = reader.seen;
+        let found = piece_at(s, at, place, seen);
         match found {
             Token::Read { item, next } => {
-                let from = reader.at;
                 reader = past(reader, item, next);
                 let mark = item_mark(item);
                 if is_position(mark) {
                     return Run::Found {
                         mark,
-                        from,
+                        from: at,
                         next: reader,
                     };
                 }

@@ -93,10 +93,12 @@ fn write(s: &[u8], values: Values, out: &mut [u8]) -> usize
     let mut to = 0;
     let mut reader = begin();
     loop {
-        let found = token_at(s, reader);
+        let at = reader.at;
+        let place = reader.place;
+        let seen = reader.seen;
+        let found = token_at(s, at, place, seen);
         match found {
             Token::Read { item, next } => {
-                let at = reader.at;
                 to = put_item(out, to, item, &s[at..next], &digits, &entries);
                 reader = past(reader, item, next);
             }

@@ -10,7 +10,7 @@ returns : tie.Need-returns
 returns c = rw (c .before .found .given .1)
 
 returns-2 : tie.Need-returns-2
-returns-2 c = rw (c .before .before .before .enum-told .given .1, ← c .before .before .byte-at .ensures, ← c .before .kind-of .ensures) (c .opening .ensures)
+returns-2 c = rw (c .before .before .enum-told .given .1, ← c .before .kind-at .ensures) (c .opening .ensures)
 
 returns-3 : tie.Need-returns-3
 returns-3 c = rw (c .before .found2 .given .1)
@@ -21,7 +21,6 @@ opened-spec =
     (tie.spec
     (λ c. search needs)
     enum-told
-    (λ c κs. search needs)
     (λ c κs. search needs)
     (λ c κs. search needs)
     (λ c. search needs)

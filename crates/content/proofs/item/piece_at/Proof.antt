@@ -8,22 +8,24 @@ enum-told : tie.Need-enum-told
 enum-told c = search needs
 
 date-token-requires : tie.Need-date-token-requires
-date-token-requires c κs = rw (c .codes-end .ensures) (codes-inside (c .before .before .before .before .before .args .s .now) (c .before .before .before .before .before .args .reader .at) (c .before .before .before .before .before .pre))
+date-token-requires c κs =
+    let start = c .before .before .before .before in
+    rw (c .codes-end .ensures) (codes-inside (start .args .s .now) (start .args .at) (start .pre))
 
 returns : tie.Need-returns
-returns c = rw (c .before .enum-told .given .1) (c .content-token .ensures)
+returns c = rw (c .before .before .enum-told .given .1, ← c .before .codes-end .ensures) (c .date-token .ensures)
 
 returns-2 : tie.Need-returns-2
-returns-2 c = rw (c .before .enum-told2 .given .1) (c .line-token .ensures)
+returns-2 c = rw (c .before .enum-told2 .given .1) (c .content-token .ensures)
 
 returns-3 : tie.Need-returns-3
-returns-3 c = rw (c .before .before .before .before .enum-told3 .given .1, ← c .before .before .before .byte-at .ensures, ← c .before .before .kind-of .ensures, ← c .before .block-token .ensures) (c .opened .ensures)
+returns-3 c = rw (c .before .enum-told3 .given .1) (c .line-token .ensures)
 
 returns-4 : tie.Need-returns-4
-returns-4 c = rw (c .before .enum-told4 .given .1) (c .field-token .ensures)
+returns-4 c = rw (c .before .before .before .enum-told4 .given .1, ← c .before .before .kind-at .ensures, ← c .before .block-token .ensures) (c .opened .ensures)
 
 returns-5 : tie.Need-returns-5
-returns-5 c = rw (c .before .before .enum-told5 .given .1, ← c .before .codes-end .ensures) (c .date-token .ensures)
+returns-5 c = rw (c .before .enum-told5 .given .1) (c .field-token .ensures)
 
 pub piece-at-spec : {M : Type 1} → statement M
 piece-at-spec =
@@ -31,18 +33,17 @@ piece-at-spec =
     (tie.spec
     enum-told
     (λ c κs. search needs)
-    (λ c. search needs)
-    (λ c κs. search needs)
-    (λ c. search needs)
-    (λ c κs. search needs)
-    (λ c κs. search needs)
-    (λ c κs. search needs)
-    (λ c κs. search needs)
-    (λ c. search needs)
-    (λ c κs. search needs)
-    (λ c. search needs)
-    (λ c κs. search needs)
     date-token-requires
+    (λ c. search needs)
+    (λ c κs. search needs)
+    (λ c. search needs)
+    (λ c κs. search needs)
+    (λ c. search needs)
+    (λ c κs. search needs)
+    (λ c κs. search needs)
+    (λ c κs. search needs)
+    (λ c. search needs)
+    (λ c κs. search needs)
     returns
     returns-2
     returns-3

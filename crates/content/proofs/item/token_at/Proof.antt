@@ -13,7 +13,7 @@ returns-2 : tie.Need-returns-2
 returns-2 c = rw (c .before .enum-told2 .given .1) (c .line-token .ensures)
 
 returns-3 : tie.Need-returns-3
-returns-3 c = rw (c .before .before .before .before .enum-told3 .given .1, ← c .before .before .before .byte-at .ensures, ← c .before .before .kind-of .ensures, ← c .before .block-token .ensures) (c .opened .ensures)
+returns-3 c = rw (c .before .before .before .enum-told3 .given .1, ← c .before .before .kind-at .ensures, ← c .before .block-token .ensures) (c .opened .ensures)
 
 returns-4 : tie.Need-returns-4
 returns-4 c = rw (c .before .enum-told4 .given .1) (c .field-token .ensures)
@@ -30,7 +30,6 @@ token-at-spec =
     (λ c. search needs)
     (λ c κs. search needs)
     (λ c. search needs)
-    (λ c κs. search needs)
     (λ c κs. search needs)
     (λ c κs. search needs)
     (λ c κs. search needs)
