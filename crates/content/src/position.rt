@@ -33,17 +33,9 @@ fn item_mark(item: Item) -> Mark
     ensures { λ r. ⌜ r ≡ item-mark item ⌝ }
 {
     match item {
-        Item::LineOpens => Mark::Structure,
-        Item::BlockOpens => Mark::Structure,
         Item::Characters => Mark::Character,
         Item::FieldCharacters => Mark::FieldCharacter,
-        Item::Tabulation(_) => Mark::Structure,
-        Item::Counter(_) => Mark::Structure,
-        Item::FieldOpens => Mark::Structure,
-        Item::FieldCloses => Mark::Structure,
-        Item::DateOpens => Mark::Structure,
-        Item::Date(_) => Mark::Structure,
-        Item::DateCloses => Mark::Structure,
+        _ => Mark::Structure,
     }
 }
 
