@@ -11,10 +11,12 @@ ghost use mathlib.Core.Path.{_≡_};
 ghost use Rattle.frame.specs.Ground.{over};
 ghost use Rattle.frame.specs.Build.{Answers, Builds, Lays, Sends, Wraps};
 
+// What comes of writing a frame, or a strip.
 pub enum Built {
-    // Numbers 2, 4 and 6: the buffer is under data + 4, data is over 550, the identifier is not in the table.
+    // Of a frame numbers 2, 4 and 6: the buffer is under data + 4, data is over 550, the identifier is not in the table.
+    // Of a strip numbers 10 and 2: the bytes are no content, the buffer is too short.
     Refused(u8),
-    // The frame's length.
+    // The length of the frame, or of the strip.
     Written(usize),
 }
 

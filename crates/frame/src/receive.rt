@@ -23,22 +23,22 @@ const WHOLE: usize = UPDATE + MARKS;
 pub enum Received {
     // Not whole yet: number 3, nothing is consumed.
     Partial,
+    // A 05h.
+    Enquiry,
     // Numbers 4 and 5.
     Refused {
         number: u8,
+        consumed: usize,
+    },
+    // A field update: size characters from place 1 on.
+    Update {
+        size: usize,
         consumed: usize,
     },
     // Numbers 6 and 7: the check byte is right, so identifier and data are read; size data bytes from place 3 on.
     Misfit {
         number: u8,
         identifier: u8,
-        size: usize,
-        consumed: usize,
-    },
-    // A 05h.
-    Enquiry,
-    // A field update: size characters from place 1 on.
-    Update {
         size: usize,
         consumed: usize,
     },
