@@ -11,7 +11,7 @@ use Rattle.frame.specs.Receive.{received, updated, framed, judged, run, text-sp
 use Rattle.frame.specs.declared.receive.Received.{Received}
 use Rattle.frame.specs.declared.receive.Received.the-variants.{Partial, Refused, Misfit, Enquiry, Update, Frame}
 use Rattle.frame.proofs.Ground.{pick-case, unless-case, checked-case}
-use Rattle.printer.specs.Clock.{date, moment, is-real, is-date, days-in, is-leap}
+use Rattle.calendar.specs.Clock.{date, moment, is-real, is-date, days-in, is-leap}
 use Rattle.printer.specs.State.{Printer, printer-of, valid-state}
 use Rattle.printer.specs.Order.{Order}
 use Rattle.printer.specs.Change.{update-fields}

@@ -14,7 +14,7 @@ use Rattle.line.specs.Line.{line, lined, bytes-of, Writes}
 use Rattle.line.specs.declared.Lined.{Lined}
 use Rattle.line.specs.declared.Lined.the-variants.{Short, Written}
 use Rattle.line.proofs.Laws.{length-line, most-digits, front-fits}
-use Rattle.printer.specs.Clock.{date, moment}
+use Rattle.calendar.specs.Clock.{date, moment}
 use Rattle.printer.specs.State.{state-size}
 use Rattle.printer.specs.Call.{Freshens}
 use Rattle.printer.specs.Receive.{Outcome, Meets, Receives, outcome, kept}

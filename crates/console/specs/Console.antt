@@ -7,7 +7,7 @@ use mathlib.Core.Path.{_≡_}
 use lib.Dec.{eqb}
 use lib.ListN.{length, drop}
 use Rattle.line.specs.Line.{line}
-use Rattle.printer.specs.Clock.{date, moment}
+use Rattle.calendar.specs.Clock.{date, moment}
 use Rattle.printer.specs.State.{bytes-of, state-size}
 use Rattle.printer.specs.Call.{fresh}
 use Rattle.printer.specs.Receive.{Outcome, outcome, kept}

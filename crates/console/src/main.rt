@@ -1,11 +1,11 @@
 // The console of document 01: a fresh printer of type 1 is fed standard input, and each call is a line, but for one that waits for more.
+use calendar::clock::Clock;
+use calendar::clock::Date;
 use line::Lined;
 use line::write_line;
 use printer::answer::ANSWER;
 use printer::answer::STRIPS;
 use printer::call::fresh;
-use printer::clock::Clock;
-use printer::clock::Date;
 use printer::receive::receive;
 use printer::state::STATE;
 ghost use Prim.Native.Nat.{_≤_};

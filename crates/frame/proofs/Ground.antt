@@ -178,6 +178,15 @@ joined-append (x ∷ xs) ys = rw (joined-append xs ys) (sym (append-assoc x (joi
 pub drop-next : (s : List ℕ) (i : ℕ) → i < length s → drop i s ≡ getD s i 0 ∷ drop (i + 1) s
 drop-next s i h = drop-cons s i 0 h ∙ ap (λ (n : ℕ). getD s i 0 ∷ drop n s) (sym (add-one i))
 
+-- Three bytes of a list.
+pub three-at : (s : List ℕ) (i : ℕ) → i + 2 < length s → take 3 (drop i s) ≡ getD s i 0 ∷ getD s (i + 1) 0 ∷ getD s (i + 2) 0 ∷ []
+three-at s i h =
+    let a : drop i s ≡ getD s i 0 ∷ drop (i + 1) s = drop-next s i (omega arith) in
+    let b : drop (i + 1) s ≡ getD s (i + 1) 0 ∷ drop (i + 1 + 1) s = drop-next s (i + 1) (omega arith) in
+    let e : i + 1 + 1 ≡ i + 2 = omega arith in
+    let d : drop (i + 2) s ≡ getD s (i + 2) 0 ∷ drop (i + 2 + 1) s = drop-next s (i + 2) (omega arith) in
+    rw (a, b, e, d)
+
 -- A byte that is not 0, which `getD` gives behind the end, stands inside.
 pub stands : (s : List ℕ) (i : ℕ) → (getD s i 0 ≡ 0 → ⊥) → i < length s
 stands s i n = go (ltb i (length s)) refl

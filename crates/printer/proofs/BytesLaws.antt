@@ -12,18 +12,18 @@ use lib.ListN.{length, getD, set, take, drop, length-append, length-take, length
 use lib.Seq.{take-nil, getD-take, getD-drop, drop-drop, take-at, drop-at, getD-at, take-all}
 use Rattle.frame.specs.Ground.{pick, every, each, joined}
 use Rattle.frame.proofs.Ground.{pick-case, both-true, within-true, length-over, length-each}
-use Rattle.printer.specs.Clock.{is-real, is-leap, days-in}
+use Rattle.calendar.specs.Clock.{is-real, is-leap, days-in}
 use Rattle.printer.specs.Number.{is-digit, all-digits, value-from, number-from, number-of, in-bytes}
 use Rattle.printer.specs.Counter.{Counter, control, all-digits-in, initial, final, step, lot, good-settings, grown, next-value, next-batch, is-set, moved, counted, valid-counter, counter-size, counter-of, counter-bytes}
 use Rattle.printer.specs.Jet.{Jet, has-jet, good-parameters, valid-jet, counted-jet, general-place, counter-place, jet-size, jet-of, jet-bytes}
 use Rattle.printer.specs.State.{state-size, empty-jet, jets-of, printer-of, bytes-of, valid, valid-state}
 use Rattle.printer.specs.BytesLaws.{AllBytes, SizedCounter, SizedJet, SizedJets, SizedMoment, AllOf, StateBack, SameBytes, PrinterBack, BytesFull, ValidBytes, SizedOf, SizedFresh, SizedWithJet, SizedClock, SizedEach, SizedMessage, SizedParameters, SizedPrint}
-use Rattle.printer.specs.declared.clock.Clock.{Clock}
+use Rattle.calendar.specs.declared.clock.Clock.{Clock}
 use Rattle.printer.proofs.Valid.{valid-size, valid-printer, valid-row, jet-counter}
 use Rattle.printer.proofs.Numbers.{Bytes, bytes-drop}
 use Rattle.printer.proofs.Memory.{part-bytes, next-place}
 use Rattle.printer.proofs.Memory as memory
-use Rattle.printer.proofs.Moments.{real-tells}
+use Rattle.calendar.proofs.Moments.{real-tells}
 
 fitting : (m : List ℕ) → AllBytes m → Bytes m
 fitting m f i = record { fits = f i }

@@ -10,10 +10,10 @@ use lib.ListN.{length, getD, take, drop, set, length-append, length-drop, drop-o
 use lib.Seq.{drop-at, drop-drop, getD-at, length-take-le, sets, sets-eq, take-all, take-at, take-suc, take-suc-set}
 use Rattle.frame.specs.Ground.{both, over, pick, unless, within}
 use Rattle.frame.specs.Build.{Lays}
-use Rattle.frame.proofs.Ground.{both-true, true-both, true-within, within-true, drop-next}
+use Rattle.frame.proofs.Ground.{both-true, true-both, true-within, within-true, drop-next, three-at}
 use Rattle.printer.specs.Number.{digits, in-bytes, number-of}
 use Rattle.printer.specs.Counter.{Counter, all-digits-in, control, counted, counter-bytes, counter-of, counter-size, counter-text, final, good-settings, initial, is-set, lot, next-batch, next-value, set-to, step, valid-counter}
-use Rattle.printer.proofs.Numbers.{Bytes, bytes-back, bytes-drop, bytes-take, number-in-bytes, three-at}
+use Rattle.printer.proofs.Numbers.{Bytes, bytes-back, bytes-drop, bytes-take, number-in-bytes}
 
 -- ---- What a test of a counter tells.
 pub record Good (q : List ℕ) : Type 0 where

@@ -15,7 +15,7 @@ use Rattle.frame.specs.declared.receive.Received.{Received}
 use Rattle.frame.specs.declared.receive.Received.the-variants.{Partial, Refused, Misfit, Enquiry, Update, Frame}
 use Rattle.frame.proofs.Ground.{both-true, pick-case, unless-tells}
 use Rattle.frame.proofs.Heard.{Sound, sound, frame-inside}
-use Rattle.printer.specs.Clock.{is-real, tick}
+use Rattle.calendar.specs.Clock.{is-real, tick}
 use Rattle.printer.specs.State.{Printer, with-clock, valid, valid-state, printer-of, bytes-of}
 use Rattle.printer.specs.Order.{Order, given, left}
 use Rattle.printer.specs.Change.{update-fields}
@@ -23,9 +23,9 @@ use Rattle.printer.specs.Receive.{Handed, Outcome, outcome, handled, kep
 use Rattle.printer.specs.Call.{set-clock, tick-clock}
 use Rattle.printer.specs.OrderLaws.{numbered}
 use Rattle.printer.specs.Demands.{Call, hand-in, clock-set, second-passes, after, Brought, nothing, brought-by, brought-in, brought}
-use Rattle.printer.specs.declared.clock.Clock.{Clock}
+use Rattle.calendar.specs.declared.clock.Clock.{Clock}
 use Rattle.printer.proofs.Valid.{valid-printer, valid-clock}
-use Rattle.printer.proofs.ClockLaws.{tick-real}
+use Rattle.calendar.proofs.ClockLaws.{tick-real}
 use Rattle.printer.proofs.StateLaws.{clock-valid}
 use Rattle.printer.proofs.OrderLaws.{obeyed-done, obeyed-refused, given-exactly, orders-numbered, order-keeps, update-keeps}
 use Rattle.printer.proofs.Editing.{update-numbered}

@@ -10,9 +10,7 @@ pub mod Valid
 pub mod Orders
 pub mod Said
 pub mod Prints
--- The laws, each file those of the statements of the same name; `Moments` and `Rows` have what they share.
-pub mod Moments
-pub mod ClockLaws
+-- The laws, each file those of the statements of the same name; `Rows` has what they share.
 pub mod CounterLaws
 pub mod BytesLaws
 pub mod Rows

@@ -13,7 +13,7 @@ use Rattle.frame.proofs.Ground.{drop-next}
 use Rattle.printer.specs.Counter.{counter-of}
 use Rattle.printer.specs.Jet.{Jet, has-jet, jet-size, jet-of, jet-bytes}
 use Rattle.printer.specs.State.{state-size, jet-at, with-jet, with-clock, jets-of, jet-place, empty-jet, fresh-printer, clock-of, clock-bytes, printer-of, bytes-of}
-use Rattle.printer.specs.declared.clock.Clock.{Clock}
+use Rattle.calendar.specs.declared.clock.Clock.{Clock}
 use Rattle.printer.proofs.Numbers.{Bytes, bytes-take, bytes-drop}
 use Rattle.printer.proofs.Jets.{jet-back}
 

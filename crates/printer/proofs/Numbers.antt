@@ -11,7 +11,7 @@ use mir.Val.{Fits}
 use lib.ListN.{length, getD, take, drop, length-append, length-drop}
 use lib.Seq.{drop-drop, getD-drop, take-nil, take-suc}
 use Rattle.frame.specs.Ground.{both}
-use Rattle.frame.proofs.Ground.{both-true, true-both, within-true, drop-next}
+use Rattle.frame.proofs.Ground.{both-true, true-both, within-true, drop-next, three-at}
 use Rattle.printer.specs.Number.{all-digits, in-bytes, is-digit, number-from, number-of, value, value-from}
 
 -- ---- Numbers in bytes.
@@ -97,15 +97,6 @@ pub part-more : (s : List ℕ) (i k : ℕ) → i + k < length s → take (suc k)
 part-more s i k h =
     take-suc (drop i s) k 0 (simp length-drop (omega arith))
     ∙ ap (λ (b : ℕ). take k (drop i s) ++ (b ∷ [])) (getD-drop i s k 0)
-
--- Three bytes of a list.
-pub three-at : (s : List ℕ) (i : ℕ) → i + 2 < length s → take 3 (drop i s) ≡ getD s i 0 ∷ getD s (i + 1) 0 ∷ getD s (i + 2) 0 ∷ []
-three-at s i h =
-    let a : drop i s ≡ getD s i 0 ∷ drop (i + 1) s = drop-next s i (omega arith) in
-    let b : drop (i + 1) s ≡ getD s (i + 1) 0 ∷ drop (i + 1 + 1) s = drop-next s (i + 1) (omega arith) in
-    let e : i + 1 + 1 ≡ i + 2 = omega arith in
-    let d : drop (i + 2) s ≡ getD s (i + 2) 0 ∷ drop (i + 2 + 1) s = drop-next s (i + 2) (omega arith) in
-    rw (a, b, e, d)
 
 pub number-three : (s : List ℕ) (i : ℕ) → i + 3 ≤ length s → (getD s i 0 * 256 + getD s (i + 1) 0) * 256 + getD s (i + 2) 0 ≡ number-of (take 3 (drop i s))
 number-three s i h = rw (three-at s i (omega arith), zero-add)

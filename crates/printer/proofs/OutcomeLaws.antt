@@ -16,7 +16,8 @@ use Rattle.frame.specs.declared.receive.Received.the-variants.{Partial, Refused
 use Rattle.frame.proofs.Ground.{unless-case, unless-tells}
 use Rattle.frame.proofs.Told.{frame-length}
 use Rattle.frame.proofs.Laws.{consumed-inside}
-use Rattle.printer.specs.Clock.{clock-text, table-text, month-entry, months, two}
+use Rattle.calendar.specs.Clock.{clock-text, table-text}
+use Rattle.calendar.proofs.ClockLaws.{texts-long}
 use Rattle.printer.specs.Number.{digits}
 use Rattle.printer.specs.Counter.{counter-of}
 use Rattle.printer.specs.Jet.{Jet, message, parameters, jet-size, jet-of}
@@ -112,10 +113,8 @@ unfolding ask-table table-text
 table-short p = told-short 0x52 table-text (omega arith)
 
 clock-short : (p : Printer) → Short (ask-clock p)
-unfolding ask-clock clock-text
-clock-short p =
-    let n : ℕ = p .clock .date .month in
-    told-short 0x9C (clock-text (p .clock)) (omega (arith, length-append (month-entry n) (two (p .clock .date .year)), length-take 3 (drop (3 * (n - 1)) months)))
+unfolding ask-clock
+clock-short p = told-short 0x9C (clock-text (p .clock)) (omega (arith, texts-long .0 (p .clock) .1))
 
 order-short : (m : List ℕ) (i : ℕ) (d : List ℕ) → valid-state m ≡ true → Short (order (printer-of m) i d)
 unfolding set-message set-parameters set-both edit-message print

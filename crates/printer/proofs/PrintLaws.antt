@@ -14,16 +14,16 @@ use Rattle.content.specs.Strip.{strip}
 use Rattle.content.specs.declared.test.Verdict.{Verdict}
 use Rattle.content.specs.declared.test.Verdict.the-variants.{Good, Unfit}
 use Rattle.content.proofs.StripLaws.{strip-resolves, strip-ends, strip-is-content, strip-same-shape, strip-length}
-use Rattle.printer.specs.Clock.{entries}
+use Rattle.calendar.specs.Clock.{entries}
 use Rattle.printer.specs.Counter.{Counter, is-set, moved, counted}
 use Rattle.printer.specs.Jet.{Jet, has-jet, has-message, message, has-parameters, valid-message, valid-jet, counted-jet}
 use Rattle.printer.specs.State.{Printer, empty-jet, jet-at}
 use Rattle.printer.specs.Print.{ready-jet, ready, values, strip-of, strips, counted-jets}
 use Rattle.printer.specs.PrintLaws.{ValuesPrintable, strip-at, StripMeaning, NoStrip, StripsFit, CountedValid, SameButCount, CountedKeeps}
-use Rattle.printer.specs.declared.clock.Clock.{Clock}
+use Rattle.calendar.specs.declared.clock.Clock.{Clock}
 use Rattle.printer.proofs.Valid.{valid-model, valid-clock, valid-row, valid-at, absent-empty, jet-content, on-row}
 use Rattle.printer.proofs.Rows.{every-each, joined-short, each-beside}
-use Rattle.printer.proofs.ClockLaws.{entries-print}
+use Rattle.calendar.proofs.ClockLaws.{entries-print}
 use Rattle.printer.proofs.CounterLaws.{digits-print, count-stays}
 use Rattle.printer.proofs.StateLaws.{parts-valid, present-tells, tells-present}
 

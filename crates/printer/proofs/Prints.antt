@@ -11,7 +11,7 @@ use lib.Seq.{drop-drop, take-at, drop-at, take-length}
 use Rattle.frame.specs.Ground.{each, joined, over}
 use Rattle.frame.proofs.Ground.{copied-more, copied-all}
 use Rattle.frame.proofs.Lent.{Laid, laid-more}
-use Rattle.printer.specs.Clock.{entries}
+use Rattle.calendar.specs.Clock.{entries}
 use Rattle.printer.specs.Jet.{jet-size, jet-of, jet-bytes, counted-jet}
 use Rattle.printer.specs.State.{Printer, state-size, empty-jet, jet-at, clock-bytes, printer-of, bytes-of}
 use Rattle.printer.specs.Print.{strip-of, strips, counted-jets}

@@ -15,7 +15,7 @@ use Rattle.printer.specs.Jet.{has-jet, has-message, message}
 use Rattle.printer.specs.State.{Printer, empty-jet, jet-at, valid, valid-state, printer-of, bytes-of, fresh-printer}
 use Rattle.printer.specs.Call.{first-printer, fresh, fresh-tests}
 use Rattle.printer.specs.Demands.{Call, after, after-all, fresh-state, is-fresh, Brought, brought, newer, last-whole, jet-after, Printed, MessagesHeld, NothingHeld, ReachedValid, PrintedAsAccepted}
-use Rattle.printer.specs.declared.clock.Clock.{Clock}
+use Rattle.calendar.specs.declared.clock.Clock.{Clock}
 use Rattle.printer.proofs.Valid.{valid-printer, valid-at, jet-content, on-row, four-jets}
 use Rattle.printer.proofs.Rows.{replicate-at}
 use Rattle.printer.proofs.StateLaws.{fresh-valid}

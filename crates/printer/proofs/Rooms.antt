@@ -24,7 +24,7 @@ use Rattle.printer.specs.Change.{parameters-in, address-in, first-of-hea
 use Rattle.printer.specs.Request.{ask-counter, ask-message, ask-table, ask-clock}
 use Rattle.printer.specs.Print.{print, counted-jets}
 use Rattle.printer.specs.Receive.{order}
-use Rattle.printer.specs.declared.clock.Clock.{Clock}
+use Rattle.calendar.specs.declared.clock.Clock.{Clock}
 use Rattle.printer.proofs.Valid.{valid-at, jet-counter, on-row, content-short}
 use Rattle.printer.proofs.Rows.{each-beside, set-any, replicate-at}
 use Rattle.printer.proofs.Numbers.{digits-part, value-fits}

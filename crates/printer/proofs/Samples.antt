@@ -8,7 +8,7 @@ use Rattle.content.specs.Byte.{is-character, is-expansion, is-count, kind-of, c
 use Rattle.content.specs.Machine.{with-line, with-field}
 use Rattle.content.specs.Content.{verdict, is-content, tested}
 use Rattle.content.specs.Position.{mark-of}
-use Rattle.printer.specs.Clock.{is-leap, days-in, is-date, is-real}
+use Rattle.calendar.specs.Clock.{is-leap, days-in, is-date, is-real}
 use Rattle.printer.specs.Counter.{good-settings, valid-counter, counter-of, counter-bytes}
 use Rattle.printer.specs.Jet.{has-jet, valid-message, valid-jet, jet-of, jet-bytes}
 use Rattle.printer.specs.State.{empty-jet, valid, printer-of, bytes-of, valid-state}

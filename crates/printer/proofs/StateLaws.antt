@@ -10,15 +10,15 @@ use lib.Seq.{take-at, getD-set-same, getD-set-other}
 use Rattle.frame.specs.Ground.{within}
 use Rattle.frame.proofs.Ground.{never, both-true, true-both, unless-tells}
 use Rattle.content.specs.Content.{verdict, is-content}
-use Rattle.printer.specs.Clock.{days-in, is-date, is-real, tick}
+use Rattle.calendar.specs.Clock.{days-in, is-date, is-real, tick}
 use Rattle.printer.specs.Counter.{valid-counter}
 use Rattle.printer.specs.Jet.{Jet, has-jet, valid-message, valid-jet, good-parameters, with-message, with-parameters}
 use Rattle.printer.specs.State.{Printer, empty-jet, with-jet, with-clock, valid-jets, valid, fresh-printer}
 use Rattle.printer.specs.StateLaws.{FirstValid, FreshValid, ClockValid, TickValid, JetAtWithJet, JetAtOther, WithJetValid, MessageOf, MessageThere, MessageStays, ParametersStay}
-use Rattle.printer.specs.declared.clock.Clock.{Clock}
+use Rattle.calendar.specs.declared.clock.Clock.{Clock}
 use Rattle.printer.proofs.Valid.{valid-model, valid-clock, valid-row, empty-valid, on-row, content-short}
 use Rattle.printer.proofs.Rows.{every-set, every-replicate}
-use Rattle.printer.proofs.ClockLaws.{tick-real}
+use Rattle.calendar.proofs.ClockLaws.{tick-real}
 use Rattle.printer.proofs.CounterLaws.{set-valid}
 
 -- A state whose parts are valid.

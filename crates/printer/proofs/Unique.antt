@@ -3,7 +3,7 @@ use Prim.Native.Nat.{ℕ}
 use mathlib.Core.List.{List}
 use mathlib.Core.Path.{_≡_, sym, _∙_}
 use Rattle.printer.specs.Call.{set-clock, tick-clock}
-use Rattle.printer.specs.Unique.{FreshensUnique, ObeysUnique, SetClockUnique, TickUnique, ClockIsRealUnique, ClockTickUnique, ReceivesUnique}
+use Rattle.printer.specs.Unique.{FreshensUnique, ObeysUnique, SetClockUnique, TickUnique, ReceivesUnique}
 use Rattle.printer.specs.declared.answer.Answered.{Answered}
 
 pub freshens-unique : FreshensUnique
@@ -17,12 +17,6 @@ set-clock-unique m clock = obeys-unique (set-clock m clock) m
 
 pub tick-unique : TickUnique
 tick-unique m = obeys-unique (tick-clock m) m
-
-pub clock-is-real-unique : ClockIsRealUnique
-clock-is-real-unique c r r′ p q = p ∙ sym q
-
-pub clock-tick-unique : ClockTickUnique
-clock-tick-unique c r r′ p q = p ∙ sym q
 
 answered : {n c a n′ c′ a′ : ℕ} {s s′ : List ℕ} → n ≡ n′ → c ≡ c′ → a ≡ a′ → s ≡ s′
     → _≡_ {A = Answered} (record { number = n; consumed = c; answer = a; strips = s }) (record { number = n′; consumed = c′; answer = a′; strips = s′ })

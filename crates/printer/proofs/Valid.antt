@@ -10,7 +10,7 @@ use lib.ListN.{length, getD}
 use Rattle.frame.specs.Ground.{within, every}
 use Rattle.frame.proofs.Ground.{never, both-true, within-true, pick-case}
 use Rattle.content.specs.Content.{is-content}
-use Rattle.printer.specs.Clock.{is-real}
+use Rattle.calendar.specs.Clock.{is-real}
 use Rattle.printer.specs.Counter.{Counter, valid-counter}
 use Rattle.printer.specs.Jet.{Jet, has-jet, has-message, message, valid-message, valid-jet}
 use Rattle.printer.specs.State.{Printer, empty-jet, jet-at, valid, valid-jets, valid-state, printer-of, state-size}

@@ -8,12 +8,12 @@ use mathlib.Core.Path.{_≡_}
 use lib.ListN.{length, getD}
 use Rattle.frame.specs.Ground.{within, each}
 use Rattle.content.specs.Content.{longest-message}
-use Rattle.printer.specs.Clock.{is-real}
+use Rattle.calendar.specs.Clock.{is-real}
 use Rattle.printer.specs.Counter.{Counter}
 use Rattle.printer.specs.Jet.{Jet, good-parameters, with-message, with-parameters}
 use Rattle.printer.specs.State.{Printer, state-size, with-jet, with-clock, fresh-printer, printer-of, bytes-of, valid, valid-state}
 use Rattle.printer.specs.Print.{counted-jets}
-use Rattle.printer.specs.declared.clock.Clock.{Clock}
+use Rattle.calendar.specs.declared.clock.Clock.{Clock}
 
 -- Lists of bytes are lists of numbers here; each is a byte.
 abbrev pub AllBytes : List ℕ → Type 0

@@ -5,10 +5,10 @@ use mathlib.Core.Path.{_≡_}
 use lib.Dec.{eqb}
 use lib.ListN.{length}
 use Rattle.frame.specs.Ground.{Test, Refusal, within, pick, test, checked}
-use Rattle.printer.specs.Clock.{is-real, date, moment, tick}
+use Rattle.calendar.specs.Clock.{is-real, date, moment, tick}
 use Rattle.printer.specs.State.{Printer, valid-state, printer-of, bytes-of, state-size, fresh-printer, with-clock}
 use Rattle.printer.specs.Order.{Order, change, given}
-use Rattle.printer.specs.declared.clock.Clock.{Clock}
+use Rattle.calendar.specs.declared.clock.Clock.{Clock}
 
 -- 01, Other calls: "both give the fresh type 1 at 1 January 2000, midnight".
 abbrev pub first-printer : Printer

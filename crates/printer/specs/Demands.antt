@@ -20,7 +20,7 @@ use Rattle.content.specs.Marks.{tree-letters, tree-marks}
 use Rattle.content.specs.Tree.{tree-of}
 use Rattle.content.specs.Update.{fitted}
 use Rattle.content.specs.declared.position.Mark.the-variants.{Structure}
-use Rattle.printer.specs.Clock.{clock-text, entries, table-text}
+use Rattle.calendar.specs.Clock.{clock-text, entries, table-text}
 use Rattle.printer.specs.Counter.{counter-text}
 use Rattle.printer.specs.Jet.{Jet, has-jet, has-message, message, parameters, with-message, with-parameters}
 use Rattle.printer.specs.State.{Printer, jet-at, printer-of, bytes-of, state-size, valid-state}
@@ -29,7 +29,7 @@ use Rattle.printer.specs.Change.{parameters-in, address-in, edited-jet, 
 use Rattle.printer.specs.Print.{ready, strips, values, counted-jets}
 use Rattle.printer.specs.Receive.{Handed, Outcome, outcome, kept, obeyed, order, refusal, answer-size, strips-size}
 use Rattle.printer.specs.Call.{Freshens, fresh, fresh-tests, set-clock, tick-clock}
-use Rattle.printer.specs.declared.clock.Clock.{Clock}
+use Rattle.calendar.specs.declared.clock.Clock.{Clock}
 
 -- ---- Calls.
 -- A call of the box: bytes handed in with buffers of some sizes, a clock to be set, or a second that passes.

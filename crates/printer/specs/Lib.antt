@@ -1,5 +1,4 @@
 -- The rules of `printer`, a page for each room.
-pub mod Clock
 pub mod Number
 pub mod Counter
 pub mod Jet
@@ -12,7 +11,6 @@ pub mod Print
 pub mod Receive
 pub mod Call
 -- What is true of them, as statements; the demands; that every contract has one outcome; the samples.
-pub mod ClockLaws
 pub mod CounterLaws
 pub mod BytesLaws
 pub mod StateLaws

@@ -16,7 +16,7 @@ use Rattle.printer.specs.Order.{Obeys}
 use Rattle.printer.specs.Change.{update-fields}
 use Rattle.printer.specs.Receive.{Handed, handing-tests, order, outcome}
 use Rattle.printer.specs.Call.{Freshens, fresh-tests, set-clock, tick-clock}
-use Rattle.printer.specs.declared.clock.Clock.{Clock}
+use Rattle.calendar.specs.declared.clock.Clock.{Clock}
 
 -- 01, Numbers: "Checked in this order". Of each frame, an update, the bytes handed in, a fresh printer, setting the clock, a tick.
 pub record InOrder : Type 0 where

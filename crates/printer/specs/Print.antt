@@ -8,7 +8,7 @@ use Rattle.frame.specs.Ground.{unless, both, each, test, over}
 use Rattle.content.specs.Content.{longest-message}
 use Rattle.content.specs.Strip.{strip}
 use Rattle.content.specs.declared.strip.Values.{Values}
-use Rattle.printer.specs.Clock.{entries}
+use Rattle.calendar.specs.Clock.{entries}
 use Rattle.printer.specs.Number.{digits}
 use Rattle.printer.specs.Jet.{Jet, has-jet, has-message, message, has-parameters, valid-jet, counted-jet}
 use Rattle.printer.specs.State.{Printer, every-jet}

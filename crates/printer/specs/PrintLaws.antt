@@ -14,10 +14,10 @@ use Rattle.content.specs.declared.strip.Values.{Values}
 use Rattle.content.specs.declared.test.Verdict.the-variants.{Good}
 use Rattle.printer.specs.Jet.{Jet, has-jet, message}
 use Rattle.printer.specs.State.{Printer, jet-at, valid}
-use Rattle.printer.specs.Clock.{entries}
+use Rattle.calendar.specs.Clock.{entries}
 use Rattle.printer.specs.Print.{ready, values, strips, counted-jets}
 use Rattle.printer.specs.Receive.{strips-size}
-use Rattle.printer.specs.declared.clock.Clock.{Clock}
+use Rattle.calendar.specs.declared.clock.Clock.{Clock}
 
 -- What the items of a message stand for is printable at every moment, and so every law of strips holds of what 94h prints.
 abbrev pub ValuesPrintable : Type 0

@@ -3,7 +3,7 @@ use Prim.Native.Nat.{ℕ}
 use mathlib.Core.List.{List, [], _∷_, _++_}
 use Rattle.frame.specs.Ground.{Test, both, test}
 use Rattle.frame.specs.Build.{frame}
-use Rattle.printer.specs.Clock.{clock-text, table-text}
+use Rattle.calendar.specs.Clock.{clock-text, table-text}
 use Rattle.printer.specs.Counter.{counter-text}
 use Rattle.printer.specs.Jet.{Jet, has-message, message, has-parameters, parameters, jet-of}
 use Rattle.printer.specs.State.{Printer}

@@ -6,10 +6,10 @@ use lib.Dec.{eqb}
 use lib.ListN.{length, getD, set, take, drop, replicate}
 use Rattle.frame.specs.Ground.{both, within, every, joined}
 use Rattle.content.specs.Content.{longest-message}
-use Rattle.printer.specs.Clock.{is-real, date, moment}
+use Rattle.calendar.specs.Clock.{is-real, date, moment}
 use Rattle.printer.specs.Counter.{settings-size}
 use Rattle.printer.specs.Jet.{Jet, has-jet, valid-jet, general-size, jet-size, jet-of, jet-bytes}
-use Rattle.printer.specs.declared.clock.Clock.{Clock}
+use Rattle.calendar.specs.declared.clock.Clock.{Clock}
 
 -- A printer's type is its model here; its jets are 1 to 4 in order, also those that it lacks.
 pub record Printer : Type 0 where

@@ -6,11 +6,11 @@ use mathlib.Core.List.{List}
 use mathlib.Core.Path.{_≡_}
 use lib.ListN.{length}
 use Rattle.content.specs.Content.{is-content}
-use Rattle.printer.specs.Clock.{is-real, tick}
+use Rattle.calendar.specs.Clock.{is-real, tick}
 use Rattle.printer.specs.Jet.{Jet, has-jet, has-message, message, valid-jet, good-parameters, with-message, with-parameters}
 use Rattle.printer.specs.State.{Printer, jet-at, with-jet, with-clock, valid}
 use Rattle.printer.specs.Call.{first-printer, fresh}
-use Rattle.printer.specs.declared.clock.Clock.{Clock}
+use Rattle.calendar.specs.declared.clock.Clock.{Clock}
 
 -- 01, Other calls: "both give the fresh type 1 at 1 January 2000, midnight", which is valid.
 abbrev pub FirstValid : Type 0

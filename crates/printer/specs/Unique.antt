@@ -4,11 +4,10 @@ use mathlib.Core.Bool.{Bool}
 use mathlib.Core.List.{List}
 use mathlib.Core.Path.{_≡_}
 use Rattle.frame.specs.Ground.{OneAnswer, OneOutcome}
-use Rattle.printer.specs.Clock.{is-real, tick}
 use Rattle.printer.specs.Order.{Order, Obeys}
 use Rattle.printer.specs.Receive.{Receives}
 use Rattle.printer.specs.Call.{Freshens, set-clock, tick-clock}
-use Rattle.printer.specs.declared.clock.Clock.{Clock}
+use Rattle.calendar.specs.declared.clock.Clock.{Clock}
 use Rattle.printer.specs.declared.answer.Answered.{Answered}
 
 -- `fresh`.
@@ -24,13 +23,6 @@ SetClockUnique = (m : List ℕ) (clock : Clock) → OneOutcome (Obeys (set-clock
 
 abbrev pub TickUnique : Type 0
 TickUnique = (m : List ℕ) → OneOutcome (Obeys (tick-clock m) m)
-
--- `Clock::is_real` and `Clock::tick` hand back what the rule says, and touch no bytes.
-abbrev pub ClockIsRealUnique : Type 0
-ClockIsRealUnique = (c : Clock) → OneAnswer (λ (r : Bool). r ≡ is-real c)
-
-abbrev pub ClockTickUnique : Type 0
-ClockTickUnique = (c : Clock) → OneAnswer (λ (r : Clock). r ≡ tick c)
 
 -- `receive`: number, count, answer's length and strips' lengths are one answer; then the bytes of the state and of the two buffers.
 abbrev pub ReceivesUnique : Type 0

@@ -1,8 +1,7 @@
-// The printer: jets and heads, the clock, counters, the state, and every call of the box.
+// The printer: jets and heads, counters, the state, and every call of the box.
 pub mod answer;
 pub mod call;
 pub mod change;
-pub mod clock;
 pub mod counter;
 pub mod jet;
 pub mod number;

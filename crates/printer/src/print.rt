@@ -1,7 +1,6 @@
 // Printing: every strip first, one behind the other, and then every jet counts.
 use crate::answer::Answered;
 use crate::answer::settle;
-use crate::clock::entries;
 use crate::counter::value;
 use crate::jet::COUNTER_AT;
 use crate::jet::JET;
@@ -11,6 +10,7 @@ use crate::number::digits;
 use crate::state::JETS;
 use crate::state::clock;
 use crate::state::ready;
+use calendar::clock::entries;
 use content::strip::Values;
 use content::strip::put_strip;
 use frame::build::Built;

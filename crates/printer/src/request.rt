@@ -1,7 +1,5 @@
 // What the frames 39h, 43h, 52h and D6h ask: each writes its frame where the answer's stands, behind the 06h.
 use crate::change::place_in;
-use crate::clock::TABLE;
-use crate::clock::clock_text;
 use crate::counter::counter_text;
 use crate::jet::COUNTER_AT;
 use crate::jet::JET;
@@ -10,6 +8,8 @@ use crate::jet::has_parameters;
 use crate::jet::message;
 use crate::jet::parameters;
 use crate::state::clock;
+use calendar::clock::TABLE;
+use calendar::clock::clock_text;
 use frame::build::answer;
 use frame::build::lay;
 use frame::build::wrap;
@@ -23,7 +23,7 @@ ghost use mathlib.Core.Path.{_≡_};
 ghost use Rattle.frame.specs.Build.{frame};
 ghost use Rattle.content.specs.Content.{longest-message};
 ghost use Rattle.printer.specs.Answer.{Tells, TellsOrder, Untold};
-ghost use Rattle.printer.specs.Clock.{clock-text, table-text};
+ghost use Rattle.calendar.specs.Clock.{clock-text, table-text};
 ghost use Rattle.printer.specs.Jet.{jet-of, jet-size};
 ghost use Rattle.printer.specs.Request.{TellsJet, request-order};
 ghost use Rattle.printer.specs.State.{printer-of, valid-state};

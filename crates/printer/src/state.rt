@@ -1,6 +1,4 @@
 // The state: one lent slice, and the only room that knows where in it the type, the clock and each jet lie.
-use crate::clock::Clock;
-use crate::clock::Date;
 use crate::jet::JET;
 use crate::jet::JetNumber;
 use crate::jet::Question;
@@ -8,6 +6,8 @@ use crate::jet::asked;
 use crate::jet::has_jet;
 use crate::jet::jet_index;
 use crate::jet::jet_number;
+use calendar::clock::Clock;
+use calendar::clock::Date;
 use content::byte::within;
 ghost use Prim.Native.Nat.{_+_, _≤_};
 ghost use lib.ListN.{length, set};

@@ -5,6 +5,7 @@ use crate::show::count;
 use crate::show::front;
 use crate::show::number;
 use crate::show::text;
+use calendar::clock::Clock;
 use content::test::test;
 use frame::build::Built;
 use frame::build::build;
@@ -13,7 +14,6 @@ use printer::answer::Answered;
 use printer::call::fresh;
 use printer::call::set_clock;
 use printer::call::tick;
-use printer::clock::Clock;
 use printer::receive::receive;
 
 // The room for a state, and what of it and of the buffers is handed in.

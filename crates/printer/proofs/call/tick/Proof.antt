@@ -3,9 +3,9 @@ use mathlib.Core.Path.{refl, sym, _∙_, ap}
 use borrow.Author.Needs.{needs}
 use borrow.Author.Tests.{not-true, not-false}
 use Rattle.printer.specs.Call.{tick-clock}
-use Rattle.printer.specs.Clock.{tick}
+use Rattle.calendar.specs.Clock.{tick}
 use Rattle.printer.specs.State.{bytes-of, printer-of, with-clock}
-use Rattle.printer.specs.declared.clock.Clock.{Clock}
+use Rattle.calendar.specs.declared.clock.Clock.{Clock}
 use Rattle.printer.proofs.Valid.{valid-size}
 use Rattle.printer.proofs.call.tick.Statement.{statement}
 use Rattle.printer.proofs.call.tick.Tie as tie

@@ -2,15 +2,16 @@
 use Prim.Native.Nat.{_+_, _-_, _*_, _≤_}
 use mathlib.Core.Path.{_≡_, refl, _∙_, ap}
 use native.Mathlib.Omega.{arith}
+use borrow.Author.Needs.{needs}
 use lib.ListN.{length}
 use Rattle.frame.proofs.Lent.{laid-length, lent-room}
-use Rattle.printer.specs.Clock.{entries}
+use Rattle.calendar.specs.Clock.{entries}
 use Rattle.printer.specs.Jet.{has-jet, jet-size}
 use Rattle.printer.specs.State.{jet-at, printer-of}
 use Rattle.printer.specs.Print.{strips}
 use Rattle.printer.proofs.Memory.{part-full, jet-lent}
 use Rattle.printer.proofs.Prints.{Printed, printed-none, printed-more, printed-all, strip-next, four-strips}
-use Rattle.printer.proofs.Valid.{valid-size, valid-printer, valid-clock, valid-at, jet-short}
+use Rattle.printer.proofs.Valid.{valid-size, valid-printer, valid-at, jet-short}
 use Rattle.printer.proofs.print.print_strips.Statement.{statement}
 use Rattle.printer.proofs.print.print_strips.Tie as tie
 
@@ -24,11 +25,6 @@ clock-requires : tie.Need-clock-requires Inv-loop μ-loop
 clock-requires c κs =
     let s = c .before .before in
     valid-size (s .args .state .now) (s .pre .0)
-
-entries-requires : tie.Need-entries-requires Inv-loop μ-loop
-entries-requires c κs =
-    let s = c .before .before .before in
-    rw (c .clock .ensures) (valid-clock (printer-of (s .args .state .now)) (valid-printer (s .args .state .now) (s .pre .0)))
 
 loop-holds : tie.Need-loop-holds Inv-loop μ-loop
 loop-holds c =
@@ -114,7 +110,7 @@ print-strips-spec =
     Inv-loop
     μ-loop
     clock-requires
-    entries-requires
+    (λ c κs. search needs)
     loop-holds
     add-end
     sub-print-jet

@@ -1,20 +1,17 @@
--- `printer::request::ask_clock` meets its contract: a valid state's clock is a real moment, and the frame holds its text.
+-- `printer::request::ask_clock` meets its contract: the frame holds the text of the state's clock.
 use mathlib.Core.Path.{_≡_, sym, _∙_, ap}
 use native.Mathlib.Omega.{arith}
 use borrow.Author.Needs.{needs}
 use lib.ListN.{length}
 use Rattle.frame.specs.Build.{frame}
-use Rattle.printer.specs.Clock.{clock-text}
-use Rattle.printer.proofs.Valid.{valid-size, valid-printer, valid-clock}
+use Rattle.calendar.specs.Clock.{clock-text}
+use Rattle.printer.proofs.Valid.{valid-size}
 use Rattle.printer.proofs.Orders.{end, answer-told}
 use Rattle.printer.proofs.request.ask_clock.Statement.{statement}
 use Rattle.printer.proofs.request.ask_clock.Tie as tie
 
 clock-requires : tie.Need-clock-requires
 clock-requires c κs = valid-size _ (c .before .before .pre .0)
-
-clock-text-requires : tie.Need-clock-text-requires
-clock-text-requires c κs = rw (c .clock .ensures) (valid-clock _ (valid-printer _ (c .before .before .before .pre .0)))
 
 returns : tie.Need-returns
 returns c =
@@ -30,7 +27,7 @@ ask-clock-spec =
     tie.close
     (tie.spec
     clock-requires
-    clock-text-requires
+    (λ c κs. search needs)
     (λ c. search needs)
     (λ c κs. search needs)
     (λ c. search needs)

@@ -2,7 +2,7 @@
 use mathlib.Core.Path.{refl}
 use native.Mathlib.Omega.{arith}
 use borrow.Author.Needs.{needs}
-use Rattle.printer.specs.Clock.{table-text}
+use Rattle.calendar.specs.Clock.{table-text}
 use Rattle.printer.proofs.Orders.{end, answer-told}
 use Rattle.printer.proofs.request.ask_table.Statement.{statement}
 use Rattle.printer.proofs.request.ask_table.Tie as tie

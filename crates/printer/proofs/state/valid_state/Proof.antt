@@ -7,7 +7,7 @@ use borrow.Author.Needs.{needs}
 use borrow.Author.Tests.{eq-eqb, ne-eqb, not-true, not-false}
 use lib.ListN.{length}
 use Rattle.frame.specs.Ground.{both, within}
-use Rattle.printer.specs.Clock.{is-real}
+use Rattle.calendar.specs.Clock.{is-real}
 use Rattle.printer.specs.State.{valid, valid-jets, valid-state, printer-of, state-size}
 use Rattle.printer.proofs.state.valid_state.Statement.{statement}
 use Rattle.printer.proofs.state.valid_state.Tie as tie

@@ -1,0 +1,4 @@
+-- The proofs of `calendar`: what a real moment tells, part by part; the laws of the clock; that every contract has one outcome.
+pub mod Moments
+pub mod ClockLaws
+pub mod Unique

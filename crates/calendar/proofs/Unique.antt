@@ -1,0 +1,15 @@
+-- No second outcome meets a contract of `calendar`: both are what the rule says.
+use mathlib.Core.Path.{_≡_, sym, _∙_}
+use Rattle.calendar.specs.Unique.{ClockIsRealUnique, ClockTickUnique, EntriesUnique, ClockTextUnique}
+
+pub clock-is-real-unique : ClockIsRealUnique
+clock-is-real-unique c r r′ p q = p ∙ sym q
+
+pub clock-tick-unique : ClockTickUnique
+clock-tick-unique c r r′ p q = p ∙ sym q
+
+pub entries-unique : EntriesUnique
+entries-unique c r r′ p q = p ∙ sym q
+
+pub clock-text-unique : ClockTextUnique
+clock-text-unique c r r′ p q = p ∙ sym q

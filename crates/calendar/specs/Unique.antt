@@ -1,0 +1,20 @@
+-- No second outcome meets a contract of `calendar`: every public call hands back what the rule says, and touches no bytes.
+use Prim.Native.Nat.{ℕ}
+use mathlib.Core.Bool.{Bool}
+use mathlib.Core.List.{List}
+use mathlib.Core.Path.{_≡_}
+use Rattle.frame.specs.Ground.{OneAnswer}
+use Rattle.calendar.specs.Clock.{clock-text, entries, is-real, tick}
+use Rattle.calendar.specs.declared.clock.Clock.{Clock}
+
+abbrev pub ClockIsRealUnique : Type 0
+ClockIsRealUnique = (c : Clock) → OneAnswer (λ (r : Bool). r ≡ is-real c)
+
+abbrev pub ClockTickUnique : Type 0
+ClockTickUnique = (c : Clock) → OneAnswer (λ (r : Clock). r ≡ tick c)
+
+abbrev pub EntriesUnique : Type 0
+EntriesUnique = (c : Clock) → OneAnswer (λ (r : List ℕ). r ≡ entries c)
+
+abbrev pub ClockTextUnique : Type 0
+ClockTextUnique = (c : Clock) → OneAnswer (λ (r : List ℕ). r ≡ clock-text c)
