@@ -1,6 +1,12 @@
 -- No second outcome meets a contract of `calendar`: both are what the rule says.
 use mathlib.Core.Path.{_≡_, sym, _∙_}
-use Rattle.calendar.specs.Unique.{ClockIsRealUnique, ClockTickUnique, EntriesUnique, ClockTextUnique}
+use Rattle.calendar.specs.Unique.{DateOfUnique, MomentUnique, ClockIsRealUnique, ClockTickUnique, EntriesUnique, ClockTextUnique}
+
+pub date-of-unique : DateOfUnique
+date-of-unique day month year r r′ p q = p ∙ sym q
+
+pub moment-unique : MomentUnique
+moment-unique second minute hour d r r′ p q = p ∙ sym q
 
 pub clock-is-real-unique : ClockIsRealUnique
 clock-is-real-unique c r r′ p q = p ∙ sym q

@@ -4,8 +4,15 @@ use mathlib.Core.Bool.{Bool}
 use mathlib.Core.List.{List}
 use mathlib.Core.Path.{_≡_}
 use Rattle.frame.specs.Ground.{OneAnswer}
-use Rattle.calendar.specs.Clock.{clock-text, entries, is-real, tick}
+use Rattle.calendar.specs.Clock.{clock-text, date, entries, is-real, moment, tick}
 use Rattle.calendar.specs.declared.clock.Clock.{Clock}
+use Rattle.calendar.specs.declared.clock.Date.{Date}
+
+abbrev pub DateOfUnique : Type 0
+DateOfUnique = (day month year : ℕ) → OneAnswer (λ (r : Date). r ≡ date day month year)
+
+abbrev pub MomentUnique : Type 0
+MomentUnique = (second minute hour : ℕ) (d : Date) → OneAnswer (λ (r : Clock). r ≡ moment second minute hour d)
 
 abbrev pub ClockIsRealUnique : Type 0
 ClockIsRealUnique = (c : Clock) → OneAnswer (λ (r : Bool). r ≡ is-real c)

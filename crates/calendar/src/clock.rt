@@ -57,13 +57,13 @@ fn days_in(month: u8, year: u8) -> u8
     31
 }
 
-fn date_of(day: u8, month: u8, year: u8) -> Date
+pub fn date_of(day: u8, month: u8, year: u8) -> Date
     ensures { λ r. ⌜ r ≡ date day month year ⌝ }
 {
     Date { day, month, year }
 }
 
-fn moment(second: u8, minute: u8, hour: u8, date: Date) -> Clock
+pub fn moment(second: u8, minute: u8, hour: u8, date: Date) -> Clock
     ensures { λ r. ⌜ r ≡ moment second minute hour date ⌝ }
 {
     Clock {

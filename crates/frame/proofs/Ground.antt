@@ -1,4 +1,4 @@
--- What the proofs of all three crates share: a set that turns the tests on the way to a return into the values of a rule's tests, and the laws of such tests, of tests in a row, of what there are several of, of a buffer that is written from its front, and of an update's text.
+-- What the proofs of all crates share: a set that turns the tests on the way to a return into the values of a rule's tests, and the laws of such tests, of tests in a row, of what there are several of, of a buffer that is written from its front, and of an update's text.
 use Prim.Native.Nat.{ℕ, zero, suc, _+_, _-_, _≤_, _<_, min}
 use mathlib.Core.Bool.{Bool, true, false}
 use mathlib.Core.List.{List, [], _∷_, _++_, append-assoc, append-nil}

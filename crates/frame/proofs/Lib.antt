@@ -1,4 +1,4 @@
--- `Ground` has what the proofs of all three crates share, `Heard` what the receiver's rule tells of what it gives, `Told` what
+-- `Ground` has what the proofs of all crates share, `Heard` what the receiver's rule tells of what it gives, `Told` what
 -- the builder's does, `Lent` a buffer that is lent part by part; `Samples` computes the rules on samples. `Numbers`,
 -- `NumberLaws`, `Laws` and `Unique` have the proofs of what the files of that name in specs/ state.
 pub mod Ground

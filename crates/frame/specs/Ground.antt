@@ -1,4 +1,4 @@
--- Words that the rules of all three crates share.
+-- Words that the rules of all crates share.
 use Prim.Native.Nat.{ℕ, _+_}
 use mathlib.Core.Bool.{Bool, true, false, _||_}
 use mathlib.Core.List.{List, [], _∷_, _++_}

@@ -1,4 +1,4 @@
--- The rules of `frame`: `Ground` has the words that all three crates share, `Numbers` the order of the numbers, each room of src/ has
+-- The rules of `frame`: `Ground` has the words that all crates share, `Numbers` the order of the numbers, each room of src/ has
 -- its page of rules; `NumberLaws` says which number is given, `Laws` what else holds of them together, `Unique` that no contract allows
 -- a second outcome.
 pub mod Ground

@@ -1,4 +1,4 @@
--- The order of the numbers, stated once for the calls of all three crates, and what it means that the first that applies is given.
+-- The order of the numbers, stated once for the calls of all crates, and what it means that the first that applies is given.
 use Prim.Native.Nat.{ℕ, _+_, _≤_}
 use mathlib.Core.Bool.{Bool, true, false}
 use mathlib.Core.List.{List, [], _∷_}

@@ -5,7 +5,8 @@ use crate::state::put_clock;
 use crate::state::put_fresh;
 use crate::state::valid_state;
 use calendar::clock::Clock;
-use calendar::clock::Date;
+use calendar::clock::date_of;
+use calendar::clock::moment;
 use content::byte::within;
 ghost use lib.ListN.{length};
 ghost use mathlib.Core.Path.{_≡_};
@@ -18,20 +19,7 @@ fn put_first(state: &mut [u8])
     requires { ⌜ length (now state) ≡ state-size ⌝ }
     ensures { λ _. ⌜ now (state .exit) ≡ bytes-of first-printer ⌝ }
 {
-    put_fresh(
-        state,
-        1,
-        Clock {
-            second: 0,
-            minute: 0,
-            hour: 0,
-            date: Date {
-                day: 1,
-                month: 1,
-                year: 0,
-            },
-        },
-    );
+    put_fresh(state, 1, moment(0, 0, 0, date_of(1, 1, 0)));
 }
 
 // A printer of a type at a moment: 1 for bytes of another size than a state's, 14 for another type, 15 for what is no real moment.
