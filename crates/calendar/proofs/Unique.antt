@@ -1,5 +1,5 @@
 -- No second outcome meets a contract of `calendar`: both are what the rule says.
-use mathlib.Core.Path.{_≡_, sym, _∙_}
+use mathlib.Core.Path.{sym, _∙_}
 use Rattle.calendar.specs.Unique.{DateOfUnique, MomentUnique, ClockIsRealUnique, ClockTickUnique, EntriesUnique, ClockTextUnique}
 
 pub date-of-unique : DateOfUnique

@@ -191,7 +191,7 @@ fn ones(n: u8) -> u8
     n % 10 + 0x30
 }
 
-// The letters of a month; what is no month has none.
+// The letters of a month; what is no month has no letters.
 fn month_entry(month: u8) -> [u8; 3]
     ensures { λ r. ⌜ r ≡ month-entry month ⌝ }
 {

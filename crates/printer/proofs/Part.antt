@@ -9,7 +9,7 @@ use lib.ListN.{length}
 use Rattle.frame.specs.Ground.{Test, all, pick, test}
 use Rattle.printer.specs.Jet.{Jet, jet-size, jet-of, jet-bytes}
 use Rattle.printer.specs.State.{Printer, state-size, jet-at, with-jet, jet-place, printer-of, bytes-of, valid-state}
-use Rattle.printer.specs.Order.{Order, change, jet-number, on-printer, jet-in, with-jet-in, Places, Obeys}
+use Rattle.printer.specs.Order.{Order, change, jet-number, on-printer, with-jet-in, Places, Obeys}
 use Rattle.printer.specs.Change.{BecomesJet}
 use Rattle.printer.proofs.Valid.{valid-printer, valid-at, jet-short, on-row}
 use Rattle.printer.proofs.Numbers.{Bytes}

@@ -37,6 +37,7 @@ pub record Tells (tests : List Test) (frame before : List ℕ) (r : Told) (after
   pub size : r .size ≡ length (told tests frame)
   pub bytes : after ≡ over (told tests frame) before
 
+-- The same of an order's tests and frame.
 abbrev pub TellsOrder : Order → List ℕ → Told → List ℕ → Type 0
 TellsOrder o before r after = Tells (o .tests) (o .frame) before r after
 

@@ -25,7 +25,8 @@ parameters-in d = take 37 (drop 1 d)
 abbrev pub address-in : List ℕ → ℕ
 address-in d = word (getD d 1 0) (getD d 2 0)
 
--- 01, Numbers: 9 "parameters not good", 10 "not a content", 11 "no content", 12 "an addressed byte is no character position", 13 "a new
+-- Which frame changes what: 0Ah the message, 0Bh the parameters, 0Ch both, 42h characters of the message. What each asks of its jet: 01,
+-- Numbers: 9 "parameters not good", 10 "not a content", 11 "no content", 12 "an addressed byte is no character position", 13 "a new
 -- symbol [..] is no character".
 abbrev pub change-tests : Change → Jet → List ℕ → List Test
 change-tests Message j d = test (is-content (drop 1 d)) 10 ∷ []
@@ -46,7 +47,7 @@ changed-jet Parameters j d = with-parameters j (parameters-in d)
 changed-jet Both j d = with-both j (parameters-in d) (drop 38 d)
 changed-jet Characters j d = edited-jet j (address-in d) (drop 3 d)
 
--- 8 "jet not on this printer" comes before what is asked of the jet.
+-- 01, Numbers: 8 "jet not on this printer" comes before what is asked of the jet.
 abbrev pub change-order : Change → Printer → List ℕ → Order
 change-order what p d =
     change

@@ -23,7 +23,7 @@ abbrev pub requested : Request → Jet → List ℕ
 requested Counter j = frame 0x39 (counter-text (j .counter))
 requested Message j = frame 0x43 (parameters j ++ message j)
 
--- 8 "jet not on this printer" comes before what is asked of the jet.
+-- 01, Numbers: 8 "jet not on this printer" comes before what is asked of the jet.
 abbrev pub request-order : Request → Printer → List ℕ → Order
 request-order what p d = tell (test (on-printer p d) 8 ∷ request-tests what (jet-in p d)) p (requested what (jet-in p d))
 

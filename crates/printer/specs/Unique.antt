@@ -1,9 +1,8 @@
 -- Every contract has one outcome: two that meet it for the same inputs have the same answer and the same bytes after.
 use Prim.Native.Nat.{ℕ}
-use mathlib.Core.Bool.{Bool}
 use mathlib.Core.List.{List}
 use mathlib.Core.Path.{_≡_}
-use Rattle.frame.specs.Ground.{OneAnswer, OneOutcome}
+use Rattle.frame.specs.Ground.{OneOutcome}
 use Rattle.printer.specs.Order.{Order, Obeys}
 use Rattle.printer.specs.Receive.{Receives}
 use Rattle.printer.specs.Call.{Freshens, set-clock, tick-clock}

@@ -1,6 +1,6 @@
 -- `calendar::clock::month_entry` meets its contract. The three letters of a month from 1 to 12 stand at their place in the table.
 use Prim.Native.Nat.{_*_, _-_, _≤_}
-use mathlib.Core.Path.{_≡_, sym, _∙_}
+use mathlib.Core.Path.{sym, _∙_}
 use native.Mathlib.Omega.{arith}
 use borrow.Author.Needs.{needs}
 use borrow.Author.Tests.{not-true, not-false}

@@ -1,6 +1,5 @@
 -- `printer::change::change_order` meets its contract: 8 where the jet is not on the printer, and else what becomes of the jet's part.
 use Prim.Native.Nat.{ℕ, _≤_}
-use mathlib.Core.Path.{_≡_}
 use native.Mathlib.Omega.{arith}
 use borrow.Author.Needs.{needs}
 use Rattle.printer.specs.Order.{jet-number}

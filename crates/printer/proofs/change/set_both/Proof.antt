@@ -1,10 +1,6 @@
 -- `printer::change::set_both` meets its contract: its tests are the rule's in the rule's order, and behind them the jet takes parameters and message.
-use mathlib.Core.Bool.{true}
-use mathlib.Core.Path.{_≡_}
 use borrow.Author.Needs.{needs}
-use lib.ListN.{drop}
 use Rattle.frame.proofs.Ground.{lent-tail}
-use Rattle.content.specs.Content.{is-content}
 use Rattle.printer.proofs.Valid.{content-short}
 use Rattle.printer.proofs.Orders.{denied, granted, here, past, end, holds, jet-refused, jet-becomes}
 use Rattle.printer.proofs.change.set_both.Statement.{statement}

@@ -1,7 +1,7 @@
 -- `printer::request::ask_message` meets its contract: its test is the rule's, and a message of 512 bytes at most leaves room for the
 -- parameters before it where the frame has them.
 use Prim.Native.Nat.{ℕ, _+_, _-_, _≤_}
-use mathlib.Core.Bool.{Bool, true}
+use mathlib.Core.Bool.{Bool}
 use mathlib.Core.List.{List, _++_, append-assoc}
 use mathlib.Core.Path.{_≡_, sym, _∙_, ap, ap₂}
 use native.Mathlib.Omega.{arith}

@@ -1,5 +1,4 @@
 -- `printer::request::request_order` meets its contract: 8 where the jet is not on the printer, and else what is told of the jet's part.
-use mathlib.Core.Path.{_≡_}
 use borrow.Author.Needs.{needs}
 use Rattle.printer.specs.Order.{jet-number}
 use Rattle.printer.proofs.Valid.{valid-size}
