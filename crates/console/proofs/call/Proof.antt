@@ -25,13 +25,20 @@ same-length : tie.Need-same-length
 same-length c = search needs
 
 returns : tie.Need-returns
-returns c = waits _ (met (c .before .before .before .before .before .before .receive .ensures) (search needs) (search needs)) (c .if1 .taken)
+returns c =
+    let at-receive = c .before .before .before .before .before .before in
+    waits _ (met (at-receive .receive .ensures) (search needs) (search needs)) (c .if1 .taken)
 
 array-share-prefix-answer : tie.Need-array-share-prefix-answer
-array-share-prefix-answer c = inside (c .before .before .before .before .before .before .before)
+array-share-prefix-answer c =
+    let at-receive = c .before .before .before .before .before .before .before in
+    inside at-receive
 
 slice-aggregate-write-line : tie.Need-slice-aggregate-write-line
-slice-aggregate-write-line c = sym (length-take-le _ _ (inside (c .before .before .before .before .before .before .before .before)))
+slice-aggregate-write-line c =
+    let at-answer2 = c .before .before .before .before .before in
+    let at-receive = at-answer2 .before .before .before in
+    sym (length-take-le _ _ (inside at-receive))
 
 write-line-requires : tie.Need-write-line-requires
 write-line-requires c κs = search needs
@@ -49,7 +56,12 @@ same-length-3 : tie.Need-same-length-3
 same-length-3 c = search needs
 
 returns-2 : tie.Need-returns-2
-returns-2 c = never-short (c .before .before .before .before .before .before .before .before .before .before .before .before .before .before .before .before .before .before .before .before .args .s .now) (met (c .before .before .before .before .before .before .before .before .before .before .before .before .before .receive .ensures) (search needs) (search needs)) (search needs) (c .before .before .before .before .write-line .ensures) (c .enum-told .given .1)
+returns-2 c =
+    let at-write-line = c .before .before .before .before in
+    let at-answer2 = at-write-line .before .before .before .before .before .before in
+    let at-receive = at-answer2 .before .before .before in
+    let at-start = at-receive .before .before .before .before .before .before .before in
+    never-short (at-start .args .s .now) (met (at-receive .receive .ensures) (search needs) (search needs)) (search needs) (at-write-line .write-line .ensures) (c .enum-told .given .1)
 
 same-length-4 : tie.Need-same-length-4
 same-length-4 c = search needs
@@ -58,7 +70,11 @@ same-length-5 : tie.Need-same-length-5
 same-length-5 c = search needs
 
 returns-3 : tie.Need-returns-3
-returns-3 c = turns (c .before .lined .given .0 .0) (met (c .before .before .before .before .before .before .before .before .before .before .before .before .before .before .receive .ensures) (search needs) (search needs)) (search needs) (c .before .before .before .before .before .write-line .ensures) (search needs) (c .before .lined .given .1)
+returns-3 c =
+    let at-write-line = c .before .before .before .before .before in
+    let at-answer2 = at-write-line .before .before .before .before .before .before in
+    let at-receive = at-answer2 .before .before .before in
+    turns (c .before .lined .given .0 .0) (met (at-receive .receive .ensures) (search needs) (search needs)) (search needs) (at-write-line .write-line .ensures) (search needs) (c .before .lined .given .1)
 
 pub call-spec : {M : Type 1} → statement M
 call-spec =

@@ -18,9 +18,14 @@ Inv-loop state₀ s text₀ at₀ state text at =
 abbrev μ-loop : tie.MeasureT-loop
 μ-loop state₀ s text₀ at₀ state text at = length s - at
 
-turned : (c : tie.After-call Inv-loop μ-loop) → Turns (c .before .before .before .before .before .loop .state) (drop (c .before .before .before .before .before .loop .at) (c .before .before .before .before .before .before .before .before .before .args .s .now)) (c .before .before .before .before .before .loop .text) (c .call .result) (c .call .last .0) (c .call .last .1 .1 .0)
+turned : (c : tie.After-call Inv-loop μ-loop) →
+    let at-loop = c .before .before .before .before .before in
+    let at-the-start = at-loop .before .before .before .before in
+    Turns (at-loop .loop .state) (drop (at-loop .loop .at) (at-the-start .args .s .now)) (at-loop .loop .text) (c .call .result) (c .call .last .0) (c .call .last .1 .1 .0)
 turned c =
-    subst (λ (l : List ℕ). Turns (c .before .before .before .before .before .loop .state) l (c .before .before .before .before .before .loop .text) (c .call .result) (c .call .last .0) (c .call .last .1 .1 .0)) (rest-lent (c .before .before .before .before .before .loop .at) (c .before .before .before .before .before .before .before .before .before .args .s .now)) (c .call .ensures)
+    let at-loop = c .before .before .before .before .before in
+    let at-the-start = at-loop .before .before .before .before in
+    subst (λ (l : List ℕ). Turns (at-loop .loop .state) l (at-loop .loop .text) (c .call .result) (c .call .last .0) (c .call .last .1 .1 .0)) (rest-lent (at-loop .loop .at) (at-the-start .args .s .now)) (c .call .ensures)
 
 slice-aggregate-text : tie.Need-slice-aggregate-text Inv-loop μ-loop
 slice-aggregate-text c = search needs
@@ -44,16 +49,27 @@ same-length : tie.Need-same-length Inv-loop μ-loop
 same-length c = search needs
 
 returns : tie.Need-returns Inv-loop μ-loop
-returns c = stops (c .before .before .before .before .before .before .before .before .before .before .before .loop .inv .3) (turned (c .before .before .before .before .before .before)) (search needs)
+returns c =
+    let at-call = c .before .before .before .before .before .before in
+    let at-loop = at-call .before .before .before .before .before in
+    stops (at-loop .loop .inv .3) (turned at-call) (search needs)
 
 add-at : tie.Need-add-at Inv-loop μ-loop
-add-at c = let h = consumed-inside (c .before .before .before .before .before .before .before .before .before .before .before .before .before .before .args .s .now) (c .before .before .before .before .before .before .before .before .before .before .loop .at) (turned (c .before .before .before .before .before)) (omega arith) in omega arith
+add-at c =
+    let at-call = c .before .before .before .before .before in
+    let at-loop = at-call .before .before .before .before .before in
+    let at-the-start = at-loop .before .before .before .before in
+    let h = consumed-inside (at-the-start .args .s .now) (at-loop .loop .at) (turned at-call) (omega arith) in omega arith
 
 slice-reshare-prefix-write-all : tie.Need-slice-reshare-prefix-write-all Inv-loop μ-loop
-slice-reshare-prefix-write-all c = line-inside (turned (c .before .before .before .before .before))
+slice-reshare-prefix-write-all c =
+    let at-call = c .before .before .before .before .before in
+    line-inside (turned at-call)
 
 slice-aggregate-write-all : tie.Need-slice-aggregate-write-all Inv-loop μ-loop
-slice-aggregate-write-all c = sym (length-take-le _ _ (line-inside (turned (c .before .before .before .before .before .before))))
+slice-aggregate-write-all c =
+    let at-call = c .before .before .before .before .before .before in
+    sym (length-take-le _ _ (line-inside (turned at-call)))
 
 write-all-requires : tie.Need-write-all-requires Inv-loop μ-loop
 write-all-requires c κs = search needs
@@ -62,13 +78,26 @@ same-length-2 : tie.Need-same-length-2 Inv-loop μ-loop
 same-length-2 c = search needs
 
 returns-2 : tie.Need-returns-2 Inv-loop μ-loop
-returns-2 c = fails (goes (c .before .before .before .before .before .before .before .before .before .before .before .before .before .before .loop .inv .3) (turned (c .before .before .before .before .before .before .before .before .before)) (omega arith) (search needs))
+returns-2 c =
+    let at-text2 = c .before .before .before .before .before .before in
+    let at-call = at-text2 .before .before .before in
+    let at-loop = at-call .before .before .before .before .before in
+    fails (goes (at-loop .loop .inv .3) (turned at-call) (omega arith) (search needs))
 
 loop-less : tie.Need-loop-less Inv-loop μ-loop
-loop-less c = let h = moves (c .before .before .before .before .before .before .before .before .before .before .before .before .before .loop .inv .3) (turned (c .before .before .before .before .before .before .before .before)) (omega arith) (search needs) in omega arith
+loop-less c =
+    let at-text2 = c .before .before .before .before .before in
+    let at-call = at-text2 .before .before .before in
+    let at-loop = at-call .before .before .before .before .before in
+    let h = moves (at-loop .loop .inv .3) (turned at-call) (omega arith) (search needs) in omega arith
 
 loop-again : tie.Need-loop-again Inv-loop μ-loop
-loop-again c = (consumed-inside (c .before .before .before .before .before .before .before .before .before .before .before .before .before .before .before .before .before .args .s .now) (c .before .before .before .before .before .before .before .before .before .before .before .before .before .loop .at) (turned (c .before .before .before .before .before .before .before .before)) (omega arith), search needs, search needs, goes (c .before .before .before .before .before .before .before .before .before .before .before .before .before .loop .inv .3) (turned (c .before .before .before .before .before .before .before .before)) (omega arith) (search needs))
+loop-again c =
+    let at-text2 = c .before .before .before .before .before in
+    let at-call = at-text2 .before .before .before in
+    let at-loop = at-call .before .before .before .before .before in
+    let at-the-start = at-loop .before .before .before .before in
+    (consumed-inside (at-the-start .args .s .now) (at-loop .loop .at) (turned at-call) (omega arith), search needs, search needs, goes (at-loop .loop .inv .3) (turned at-call) (omega arith) (search needs))
 
 same-length-3 : tie.Need-same-length-3 Inv-loop μ-loop
 same-length-3 c = search needs

@@ -54,8 +54,9 @@ loop-less c = omega arith
 
 loop-again : tie.Need-loop-again Inv-loop μ-loop
 loop-again c =
-    let a = c .before .before .before .before .before .before .before .args in
-    let l = c .before .before .before .before .loop in
+    let at-loop = c .before .before .before .before in
+    let a = at-loop .before .before .before .args in
+    let l = at-loop .loop in
     let first : List ℕ = set (l .out) (2 * l .i) (c .before .hex-digit .result) in (
       omega arith,
       l .inv .1,

@@ -18,10 +18,11 @@ held c =
     let d = c .before .before .before .before .before .write-decimal in
     putMid (d .result + 1) (length (set (d .last .0) (d .result) space) - (d .result + 1)) (set (d .last .0) (d .result) space) (c .before .write-hex .last .0)
 
-kept : (c : tie.After-out2) → length (held c) ≡ length (c .before .before .before .before .before .before .before .before .before .before .before .before .args .out .now)
+kept : (c : tie.After-out2) → let at-start = c .before .before .before .before .before .before .before .before .before .before .before .before in length (held c) ≡ length (at-start .args .out .now)
 kept c =
-    let a = c .before .before .before .before .before .before .before .before .before .before .before .before .args in
-    let d = c .before .before .before .before .before .write-decimal in
+    let at-write-decimal = c .before .before .before .before .before in
+    let a = at-write-decimal .before .before .before .before .before .before .before .args in
+    let d = at-write-decimal .write-decimal in
     c .out2 .given .1 ∙ length-set (d .last .0) (d .result) space ∙ ap length (d .ensures .1) ∙ length-over (decimal (a .number)) (a .out .now) (omega arith)
 
 returns : tie.Need-returns
@@ -36,10 +37,14 @@ mul-size : tie.Need-mul-size
 mul-size c = search needs
 
 add-size : tie.Need-add-size
-add-size c = omega (arith, most-digits (c .before .before .before .before .args .number))
+add-size c =
+    let at-start = c .before .before .before .before in
+    omega (arith, most-digits (at-start .args .number))
 
 add-size-2 : tie.Need-add-size-2
-add-size-2 c = omega (arith, most-digits (c .before .before .before .before .args .number))
+add-size-2 c =
+    let at-start = c .before .before .before .before in
+    omega (arith, most-digits (at-start .args .number))
 
 returns-2 : tie.Need-returns-2
 returns-2 c =
@@ -80,10 +85,13 @@ same-length c = length-set (held (c .before)) _ _ ∙ kept (c .before)
 
 returns-3 : tie.Need-returns-3
 returns-3 c =
-    let a = c .before .before .before .before .before .before .before .before .before .before .before .before .before .args in
-    let d = c .before .before .before .before .before .before .write-decimal in
-    let h = c .before .before .write-hex in
-    let w = c .before .before .before .before .before .before .before .before .before .width in
+    let at-write-hex = c .before .before in
+    let at-write-decimal = at-write-hex .before .before .before .before in
+    let at-width = at-write-decimal .before .before .before in
+    let a = at-width .before .before .before .before .args in
+    let d = at-write-decimal .write-decimal in
+    let h = at-write-hex .write-hex in
+    let w = at-width .width in
     written (a .out .now) (a .number) (d .result) (w .result + 2 * length (a .answer .now) + 2) (a .answer .now) (d .last .0) (h .last .0)
     (d .ensures .0) (omega arith) (omega arith) (d .ensures .1) (h .ensures)
 

@@ -28,7 +28,11 @@ is-character-requires : tie.Need-is-character-requires Inv-loop μ-loop
 is-character-requires c κs = search needs
 
 returns : tie.Need-returns Inv-loop μ-loop
-returns c = sym (c .before .before .before .before .loop .inv .1 ∙ ap all-characters (drop-next (c .before .before .before .before .before .before .args .s .now) (c .before .before .before .before .loop .i) (c .before .before .before .loop-test .taken)) ∙ ap (λ (t : Bool). both t (all-characters (drop (c .before .before .before .before .loop .i + 1) (c .before .before .before .before .before .before .args .s .now)))) (sym (c .before .is-character .ensures) ∙ not-true (c .before .is-character .result) (c .if1 .taken)))
+returns c =
+    let at-loop-test = c .before .before .before in
+    let at-loop = at-loop-test .before in
+    let at-start = at-loop .before .before in
+    sym (at-loop .loop .inv .1 ∙ ap all-characters (drop-next (at-start .args .s .now) (at-loop .loop .i) (at-loop-test .loop-test .taken)) ∙ ap (λ (t : Bool). both t (all-characters (drop (at-loop .loop .i + 1) (at-start .args .s .now)))) (sym (c .before .is-character .ensures) ∙ not-true (c .before .is-character .result) (c .if1 .taken)))
 
 add-i : tie.Need-add-i Inv-loop μ-loop
 add-i c = omega arith
@@ -37,7 +41,11 @@ loop-less : tie.Need-loop-less Inv-loop μ-loop
 loop-less c = omega arith
 
 loop-again : tie.Need-loop-again Inv-loop μ-loop
-loop-again c = (omega arith, c .before .before .before .before .loop .inv .1 ∙ ap all-characters (drop-next (c .before .before .before .before .before .before .args .s .now) (c .before .before .before .before .loop .i) (c .before .before .before .loop-test .taken)) ∙ ap (λ (t : Bool). both t (all-characters (drop (c .before .before .before .before .loop .i + 1) (c .before .before .before .before .before .before .args .s .now)))) (sym (c .before .is-character .ensures) ∙ not-false (c .before .is-character .result) (c .if1 .left)))
+loop-again c =
+    let at-loop-test = c .before .before .before in
+    let at-loop = at-loop-test .before in
+    let at-start = at-loop .before .before in
+    (omega arith, at-loop .loop .inv .1 ∙ ap all-characters (drop-next (at-start .args .s .now) (at-loop .loop .i) (at-loop-test .loop-test .taken)) ∙ ap (λ (t : Bool). both t (all-characters (drop (at-loop .loop .i + 1) (at-start .args .s .now)))) (sym (c .before .is-character .ensures) ∙ not-false (c .before .is-character .result) (c .if1 .left)))
 
 returns-2 : tie.Need-returns-2 Inv-loop μ-loop
 returns-2 c = sym (c .before .loop .inv .1 ∙ ap all-characters (drop-of-length-le (c .before .before .before .args .s .now) (c .loop-test .left)))

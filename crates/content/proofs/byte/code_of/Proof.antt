@@ -27,23 +27,47 @@ returns-2 c = rw (← c .before .before .before .within .ensures, c .before .bef
 
 returns-3 : tie.Need-returns-3
 unfolding code-of
-returns-3 c = rw (← c .before .before .before .before .within .ensures, c .before .before .before .if1 .left, ← c .before .before .within2 .ensures, c .before .if2 .left) (search tests)
+returns-3 c =
+    let at-within2 = c .before .before in
+    let at-if1 = at-within2 .before in
+    let at-within = at-if1 .before in
+    rw (← at-within .within .ensures, at-if1 .if1 .left, ← at-within2 .within2 .ensures, c .before .if2 .left) (search tests)
 
 returns-4 : tie.Need-returns-4
 unfolding code-of
-returns-4 c = rw (← c .before .before .before .before .before .within .ensures, c .before .before .before .before .if1 .left, ← c .before .before .before .within2 .ensures, c .before .before .if2 .left) (search tests)
+returns-4 c =
+    let at-if2 = c .before .before in
+    let at-within2 = at-if2 .before in
+    let at-if1 = at-within2 .before in
+    let at-within = at-if1 .before in
+    rw (← at-within .within .ensures, at-if1 .if1 .left, ← at-within2 .within2 .ensures, at-if2 .if2 .left) (search tests)
 
 returns-5 : tie.Need-returns-5
 unfolding code-of
-returns-5 c = rw (← c .before .before .before .before .before .before .within .ensures, c .before .before .before .before .before .if1 .left, ← c .before .before .before .before .within2 .ensures, c .before .before .before .if2 .left) (search tests)
+returns-5 c =
+    let at-if2 = c .before .before .before in
+    let at-within2 = at-if2 .before in
+    let at-if1 = at-within2 .before in
+    let at-within = at-if1 .before in
+    rw (← at-within .within .ensures, at-if1 .if1 .left, ← at-within2 .within2 .ensures, at-if2 .if2 .left) (search tests)
 
 returns-6 : tie.Need-returns-6
 unfolding code-of
-returns-6 c = rw (← c .before .before .before .before .before .before .before .within .ensures, c .before .before .before .before .before .before .if1 .left, ← c .before .before .before .before .before .within2 .ensures, c .before .before .before .before .if2 .left) (search tests)
+returns-6 c =
+    let at-if2 = c .before .before .before .before in
+    let at-within2 = at-if2 .before in
+    let at-if1 = at-within2 .before in
+    let at-within = at-if1 .before in
+    rw (← at-within .within .ensures, at-if1 .if1 .left, ← at-within2 .within2 .ensures, at-if2 .if2 .left) (search tests)
 
 returns-7 : tie.Need-returns-7
 unfolding code-of
-returns-7 c = rw (← c .before .before .before .before .before .before .before .within .ensures, c .before .before .before .before .before .before .if1 .left, ← c .before .before .before .before .before .within2 .ensures, c .before .before .before .before .if2 .left) (search tests)
+returns-7 c =
+    let at-if2 = c .before .before .before .before in
+    let at-within2 = at-if2 .before in
+    let at-if1 = at-within2 .before in
+    let at-within = at-if1 .before in
+    rw (← at-within .within .ensures, at-if1 .if1 .left, ← at-within2 .within2 .ensures, at-if2 .if2 .left) (search tests)
 
 pub code-of-spec : {M : Type 1} → statement M
 code-of-spec =

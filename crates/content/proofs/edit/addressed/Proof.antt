@@ -5,6 +5,8 @@ use mathlib.Core.Path.{sym}
 use native.Mathlib.Omega.{arith}
 use borrow.Author.Needs.{needs}
 use lib.ListN.{length}
+use Rattle.content.specs.Position.{Runs}
+use Rattle.content.specs.declared.position.Run.the-variants.{Found}
 use Rattle.content.proofs.Stretches.{Landing, found, found-none, nothing-lands, too-many, not-landed, lands-not, lands-whole, lands-part, lands-later, lands-nowhere}
 use Rattle.content.proofs.edit.addressed.Statement.{statement}
 use Rattle.content.proofs.edit.addressed.Tie as tie
@@ -15,17 +17,31 @@ Inv-loop s address symbols n from₀ end reader₀ from reader = Landing s addre
 abbrev μ-loop : tie.MeasureT-loop
 μ-loop s address symbols n from₀ end reader₀ from reader = length s - reader .at
 
+-- The loop's head before a run that is found, the start before the loop, and what is found.
+abbrev loop-of : tie.After-run Inv-loop μ-loop → tie.At-loop Inv-loop μ-loop
+loop-of c = c .before .before .before
+
+abbrev start-of : tie.At-loop Inv-loop μ-loop → tie.Start Inv-loop μ-loop
+start-of c = c .before .before .before .before .before .before .before
+
+run-of : (c : tie.After-run Inv-loop μ-loop) → let r = c .run .given .0 in Runs (start-of (loop-of c) .args .s .now) (loop-of c .loop .reader) (Found (r .0) (r .1 .0) (r .1 .1 .0))
+run-of c = found (start-of (loop-of c) .args .s .now) (loop-of c .loop .reader) (c .before .before .run-at .ensures) (c .run .given .1)
+
 returns : tie.Need-returns Inv-loop μ-loop
 returns c = sym (nothing-lands (c .before .before .before .args .symbols .now) _ (c .if1 .taken))
 
 returns-2 : tie.Need-returns-2 Inv-loop μ-loop
-returns-2 c = sym (too-many (c .before .before .before .before .args .s .now) (c .before .before .before .before .args .address) (c .before .before .before .before .args .symbols .now) (omega arith))
+returns-2 c =
+    let at-start = c .before .before .before .before in
+    sym (too-many (at-start .args .s .now) (at-start .args .address) (at-start .args .symbols .now) (omega arith))
 
 sub-if3 : tie.Need-sub-if3 Inv-loop μ-loop
 sub-if3 c = omega arith
 
 returns-3 : tie.Need-returns-3 Inv-loop μ-loop
-returns-3 c = sym (too-many (c .before .before .before .before .before .args .s .now) (c .before .before .before .before .before .args .address) (c .before .before .before .before .before .args .symbols .now) (omega arith))
+returns-3 c =
+    let at-start = c .before .before .before .before .before in
+    sym (too-many (at-start .args .s .now) (at-start .args .address) (at-start .args .symbols .now) (omega arith))
 
 add-end : tie.Need-add-end Inv-loop μ-loop
 add-end c = omega arith
@@ -39,29 +55,48 @@ run-at-requires : tie.Need-run-at-requires Inv-loop μ-loop
 run-at-requires c κs = c .loop .inv .inside
 
 returns-4 : tie.Need-returns-4 Inv-loop μ-loop
-returns-4 c = lands-not (c .before .before .before .before .before .loop .inv) (found (c .before .before .before .before .before .before .before .before .before .before .before .before .args .s .now) (c .before .before .before .before .before .loop .reader) (c .before .before .before .before .run-at .ensures) (c .before .before .run .given .1)) (c .if4 .taken)
+returns-4 c =
+    let at-run = c .before .before in
+    let at-loop = loop-of at-run in
+    lands-not (at-loop .loop .inv) (run-of at-run) (c .if4 .taken)
 
 returns-5 : tie.Need-returns-5 Inv-loop μ-loop
-returns-5 c = lands-whole (c .before .before .before .before .before .before .before .loop .inv) (found (c .before .before .before .before .before .before .before .before .before .before .before .before .before .before .args .s .now) (c .before .before .before .before .before .before .before .loop .reader) (c .before .before .before .before .before .before .run-at .ensures) (c .before .before .before .before .run .given .1)) (c .before .before .if4 .left) (c .if5 .taken)
+returns-5 c =
+    let at-if4 = c .before .before in
+    let at-run = at-if4 .before .before in
+    let at-loop = loop-of at-run in
+    lands-whole (at-loop .loop .inv) (run-of at-run) (at-if4 .if4 .left) (c .if5 .taken)
 
 loop-less : tie.Need-loop-less Inv-loop μ-loop
 loop-less c =
-    let r = found (c .before .before .before .before .before .before .before .before .before .before .before .before .before .before .before .before .args .s .now) (c .before .before .before .before .before .before .before .before .before .loop .reader) (c .before .before .before .before .before .before .before .before .run-at .ensures) (c .before .before .before .before .before .before .run .given .1) in
+    let r = run-of (c .before .before .before .before .before .before) in
     omega (arith, r .ahead, r .some, r .inside)
 
 loop-again : tie.Need-loop-again Inv-loop μ-loop
-loop-again c = lands-part (c .before .before .before .before .before .before .before .before .before .loop .inv) (found (c .before .before .before .before .before .before .before .before .before .before .before .before .before .before .before .before .args .s .now) (c .before .before .before .before .before .before .before .before .before .loop .reader) (c .before .before .before .before .before .before .before .before .run-at .ensures) (c .before .before .before .before .before .before .run .given .1)) (c .before .before .before .before .if4 .left) (c .if6 .taken) (c .before .before .if5 .left)
+loop-again c =
+    let at-if5 = c .before .before in
+    let at-if4 = at-if5 .before .before in
+    let at-run = at-if4 .before .before in
+    let at-loop = loop-of at-run in
+    lands-part (at-loop .loop .inv) (run-of at-run) (at-if4 .if4 .left) (c .if6 .taken) (at-if5 .if5 .left)
 
 loop-less-2 : tie.Need-loop-less-2 Inv-loop μ-loop
 loop-less-2 c =
-    let r = found (c .before .before .before .before .before .before .before .before .before .before .before .before .before .before .before .before .args .s .now) (c .before .before .before .before .before .before .before .before .before .loop .reader) (c .before .before .before .before .before .before .before .before .run-at .ensures) (c .before .before .before .before .before .before .run .given .1) in
+    let r = run-of (c .before .before .before .before .before .before) in
     omega (arith, r .ahead, r .some, r .inside)
 
 loop-again-2 : tie.Need-loop-again-2 Inv-loop μ-loop
-loop-again-2 c = lands-later (c .before .before .before .before .before .before .before .before .before .loop .inv) (found (c .before .before .before .before .before .before .before .before .before .before .before .before .before .before .before .before .args .s .now) (c .before .before .before .before .before .before .before .before .before .loop .reader) (c .before .before .before .before .before .before .before .before .run-at .ensures) (c .before .before .before .before .before .before .run .given .1)) (c .if6 .left)
+loop-again-2 c =
+    let at-run = c .before .before .before .before .before .before in
+    let at-loop = loop-of at-run in
+    lands-later (at-loop .loop .inv) (run-of at-run) (c .if6 .left)
 
 returns-6 : tie.Need-returns-6 Inv-loop μ-loop
-returns-6 c = lands-nowhere (c .before .before .before .loop .inv) (found-none (c .before .before .before .before .before .before .before .before .before .before .args .s .now) (c .before .before .before .loop .reader) (c .before .before .run-at .ensures) (c .enum-told .given .1))
+returns-6 c =
+    let at-run-at = c .before .before in
+    let at-loop = at-run-at .before in
+    let at-start = start-of at-loop in
+    lands-nowhere (at-loop .loop .inv) (found-none (at-start .args .s .now) (at-loop .loop .reader) (at-run-at .run-at .ensures) (c .enum-told .given .1))
 
 pub addressed-spec : {M : Type 1} → statement M
 addressed-spec =

@@ -67,30 +67,39 @@ returns c =
 
 returns-2 : tie.Need-returns-2
 returns-2 c =
-    let a = c .before .before .before .before .before .before .before .args in
-    let p = c .before .before .before .addressed in
+    let at-if1 = c .before .before in
+    let at-addressed = at-if1 .before in
+    let a = at-addressed .before .before .before .before .args in
+    let p = at-addressed .addressed in
     let q = c .before .all-characters in
-    no-character (a .s .now) (a .address) (a .symbols .now) (p .ensures) (not-false (p .result) (c .before .before .if1 .left)) (q .ensures) (not-true (q .result) (c .if2 .taken))
+    no-character (a .s .now) (a .address) (a .symbols .now) (p .ensures) (not-false (p .result) (at-if1 .if1 .left)) (q .ensures) (not-true (q .result) (c .if2 .taken))
 
 returns-3 : tie.Need-returns-3
 returns-3 c =
-    let d = c .before .before .before .before .before in
-    let a = d .before .before .before .before .before .before .before .args in
-    let p = d .before .before .before .addressed in
-    let q = d .before .all-characters in
-    let f = not-false (p .result) (d .before .before .if1 .left) in
-    let laid = written (a .s .now) (a .address) (a .symbols .now) (c .before .before .before .before .if3 .taken) (room (a .s .now) (a .address) (a .symbols .now) (p .ensures) f) (c .before .before .lay .ensures) in
-    done (a .s .now) (a .address) (a .symbols .now) (p .ensures) f (q .ensures) (not-false (q .result) (d .if2 .left)) laid
+    let at-lay = c .before .before in
+    let at-if3 = at-lay .before .before in
+    let at-if2 = at-if3 .before in
+    let at-all-characters = at-if2 .before in
+    let at-if1 = at-all-characters .before in
+    let at-addressed = at-if1 .before in
+    let a = at-addressed .before .before .before .before .args in
+    let p = at-addressed .addressed in
+    let q = at-all-characters .all-characters in
+    let f = not-false (p .result) (at-if1 .if1 .left) in
+    let laid = written (a .s .now) (a .address) (a .symbols .now) (at-if3 .if3 .taken) (room (a .s .now) (a .address) (a .symbols .now) (p .ensures) f) (at-lay .lay .ensures) in
+    done (a .s .now) (a .address) (a .symbols .now) (p .ensures) f (q .ensures) (not-false (q .result) (at-if2 .if2 .left)) laid
 
 returns-4 : tie.Need-returns-4
 returns-4 c =
-    let d = c .before in
-    let a = d .before .before .before .before .before .before .before .args in
-    let p = d .before .before .before .addressed in
-    let q = d .before .all-characters in
-    let f = not-false (p .result) (d .before .before .if1 .left) in
+    let at-all-characters = c .before .before in
+    let at-if1 = at-all-characters .before in
+    let at-addressed = at-if1 .before in
+    let a = at-addressed .before .before .before .before .args in
+    let p = at-addressed .addressed in
+    let q = at-all-characters .all-characters in
+    let f = not-false (p .result) (at-if1 .if1 .left) in
     let same = none (a .s .now) (a .address) (a .symbols .now) (omega (arith, room (a .s .now) (a .address) (a .symbols .now) (p .ensures) f)) in
-    done (a .s .now) (a .address) (a .symbols .now) (p .ensures) f (q .ensures) (not-false (q .result) (d .if2 .left)) same
+    done (a .s .now) (a .address) (a .symbols .now) (p .ensures) f (q .ensures) (not-false (q .result) (c .before .if2 .left)) same
 
 pub edit-spec : {M : Type 1} → statement M
 edit-spec =

@@ -29,7 +29,12 @@ is-code-requires : tie.Need-is-code-requires Inv-loop μ-loop
 is-code-requires c κs = search needs
 
 returns : tie.Need-returns Inv-loop μ-loop
-returns c = sym (c .before .before .before .before .before .loop .inv .1 ∙ codes-stop (c .before .before .before .before .before .before .before .args .s .now) (c .before .before .before .before .before .loop .i) (c .before .before .before .before .loop-test .taken) (c .before .before .code-of .ensures) (c .before .is-code .ensures) (c .if1 .taken))
+returns c =
+    let at-code-of = c .before .before in
+    let at-loop-test = at-code-of .before .before in
+    let at-loop = at-loop-test .before in
+    let at-start = at-loop .before .before in
+    sym (at-loop .loop .inv .1 ∙ codes-stop (at-start .args .s .now) (at-loop .loop .i) (at-loop-test .loop-test .taken) (at-code-of .code-of .ensures) (c .before .is-code .ensures) (c .if1 .taken))
 
 add-i : tie.Need-add-i Inv-loop μ-loop
 add-i c = omega arith
@@ -38,7 +43,12 @@ loop-less : tie.Need-loop-less Inv-loop μ-loop
 loop-less c = omega arith
 
 loop-again : tie.Need-loop-again Inv-loop μ-loop
-loop-again c = (omega arith, c .before .before .before .before .before .loop .inv .1 ∙ codes-on (c .before .before .before .before .before .before .before .args .s .now) (c .before .before .before .before .before .loop .i) (c .before .before .before .before .loop-test .taken) (c .before .before .code-of .ensures) (c .before .is-code .ensures) (c .if1 .left))
+loop-again c =
+    let at-code-of = c .before .before in
+    let at-loop-test = at-code-of .before .before in
+    let at-loop = at-loop-test .before in
+    let at-start = at-loop .before .before in
+    (omega arith, at-loop .loop .inv .1 ∙ codes-on (at-start .args .s .now) (at-loop .loop .i) (at-loop-test .loop-test .taken) (at-code-of .code-of .ensures) (c .before .is-code .ensures) (c .if1 .left))
 
 returns-2 : tie.Need-returns-2 Inv-loop μ-loop
 returns-2 c = sym (c .before .loop .inv .1 ∙ codes-none (c .before .before .before .args .s .now) (c .before .loop .i) (c .loop-test .left))

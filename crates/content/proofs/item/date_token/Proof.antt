@@ -15,11 +15,19 @@ enum-told c = search needs
 
 returns-2 : tie.Need-returns-2
 unfolding date-token
-returns-2 c = rw (← c .before .before .before .before .before .byte-at .ensures, ne-eqb _ _ (c .before .before .before .before .if1 .left), ← c .before .before .before .code-of .ensures, c .before .coded .given .1)
+returns-2 c =
+    let at-code-of = c .before .before .before in
+    let at-if1 = at-code-of .before in
+    let at-byte-at = at-if1 .before in
+    rw (← at-byte-at .byte-at .ensures, ne-eqb _ _ (at-if1 .if1 .left), ← at-code-of .code-of .ensures, c .before .coded .given .1)
 
 returns-3 : tie.Need-returns-3
 unfolding date-token
-returns-3 c = rw (← c .before .before .before .before .byte-at .ensures, ne-eqb _ _ (c .before .before .before .if1 .left), ← c .before .before .code-of .ensures, c .enum-told .given .1)
+returns-3 c =
+    let at-code-of = c .before .before in
+    let at-if1 = at-code-of .before in
+    let at-byte-at = at-if1 .before in
+    rw (← at-byte-at .byte-at .ensures, ne-eqb _ _ (at-if1 .if1 .left), ← at-code-of .code-of .ensures, c .enum-told .given .1)
 
 pub date-token-spec : {M : Type 1} → statement M
 date-token-spec =

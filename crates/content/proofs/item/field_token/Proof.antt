@@ -12,7 +12,11 @@ returns c = rw (← c .before .before .byte-at .ensures, c .one-byte .ensures) (
 
 returns-2 : tie.Need-returns-2
 unfolding field-token
-returns-2 c = rw (← c .before .before .before .before .byte-at .ensures, ne-eqb _ _ (c .before .before .before .if1 .left), ← c .before .before .is-character .ensures, c .before .if2 .taken, c .characters-end .ensures)
+returns-2 c =
+    let at-is-character = c .before .before in
+    let at-if1 = at-is-character .before in
+    let at-byte-at = at-if1 .before in
+    rw (← at-byte-at .byte-at .ensures, ne-eqb _ _ (at-if1 .if1 .left), ← at-is-character .is-character .ensures, c .before .if2 .taken, c .characters-end .ensures)
 
 returns-3 : tie.Need-returns-3
 unfolding field-token

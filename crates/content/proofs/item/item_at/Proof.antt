@@ -10,13 +10,19 @@ enum-told : tie.Need-enum-told
 enum-told c = search needs
 
 whole-field-requires : tie.Need-whole-field-requires
-whole-field-requires c κs = field-stands (c .before .before .before .args .s .now) (c .before .before .before .args .at) (sym (c .before .before .before .pre .1) ∙ c .enum-told3 .given .1)
+whole-field-requires c κs =
+    let at-start = c .before .before .before in
+    field-stands (at-start .args .s .now) (at-start .args .at) (sym (at-start .pre .1) ∙ c .enum-told3 .given .1)
 
 codes-end-requires : tie.Need-codes-end-requires
-codes-end-requires c κs = let h = date-stands (c .before .before .before .args .s .now) (c .before .before .before .args .at) (sym (c .before .before .before .pre .1) ∙ c .enum-told4 .given .1) in omega (arith, h)
+codes-end-requires c κs =
+    let at-start = c .before .before .before in
+    let h = date-stands (at-start .args .s .now) (at-start .args .at) (sym (at-start .pre .1) ∙ c .enum-told4 .given .1) in omega (arith, h)
 
 closing-requires : tie.Need-closing-requires
-closing-requires c κs = let h = date-stands (c .before .before .before .before .args .s .now) (c .before .before .before .before .args .at) (sym (c .before .before .before .before .pre .1) ∙ c .before .enum-told4 .given .1) in rw (c .codes-end .ensures) (codes-inside (c .before .before .before .before .args .s .now) _ (omega (arith, h)))
+closing-requires c κs =
+    let at-start = c .before .before .before .before in
+    let h = date-stands (at-start .args .s .now) (at-start .args .at) (sym (at-start .pre .1) ∙ c .before .enum-told4 .given .1) in rw (c .codes-end .ensures) (codes-inside (at-start .args .s .now) _ (omega (arith, h)))
 
 returns-3 : tie.Need-returns-3
 returns-3 c = rw (c .before .enum-told3 .given .1) (c .whole-field .ensures)

@@ -9,8 +9,8 @@ enum-told c = search needs
 
 date-token-requires : tie.Need-date-token-requires
 date-token-requires c κs =
-    let start = c .before .before .before .before in
-    rw (c .codes-end .ensures) (codes-inside (start .args .s .now) (start .args .at) (start .pre))
+    let at-start = c .before .before .before .before in
+    rw (c .codes-end .ensures) (codes-inside (at-start .args .s .now) (at-start .args .at) (at-start .pre))
 
 returns : tie.Need-returns
 returns c = rw (c .before .before .enum-told .given .1, ← c .before .codes-end .ensures) (c .date-token .ensures)

@@ -6,7 +6,10 @@ use Rattle.content.proofs.strip.put.Statement.{statement}
 use Rattle.content.proofs.strip.put.Tie as tie
 
 returns : tie.Need-returns
-returns c = (refl, put-laid (c .before .before .before .before .before .before .args .to) (c .before .before .before .before .before .before .args .bytes .now) (c .before .before .before .before .before .before .args .out .now) (c .before .before .lay .last .0) (c .before .before .lay .result) (c .before .before .before .before .before .before .pre) (c .before .before .lay .ensures))
+returns c =
+    let at-lay = c .before .before in
+    let at-start = at-lay .before .before .before .before in
+    (refl, put-laid (at-start .args .to) (at-start .args .bytes .now) (at-start .args .out .now) (at-lay .lay .last .0) (at-lay .lay .result) (at-start .pre) (at-lay .lay .ensures))
 
 pub put-spec : {M : Type 1} → statement M
 put-spec =

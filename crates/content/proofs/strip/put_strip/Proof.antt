@@ -28,13 +28,21 @@ module _ (v : Values) (s before : List ℕ) where
   written h p = strip-told (put-tests s (length before)) v s before (rw (le-leb (3 * length s) (length before) (omega arith)) (ap Written (p .0))) (p .1)
 
 returns : tie.Need-returns
-returns c = short (c .before .before .before .args .values) (c .before .before .before .args .s .now) (c .before .before .before .args .out .now) (c .if1 .taken)
+returns c =
+    let at-start = c .before .before .before in
+    short (at-start .args .values) (at-start .args .s .now) (at-start .args .out .now) (c .if1 .taken)
 
 write-requires : tie.Need-write-requires
-write-requires c κs = fits (c .before .before .before .before .args .values) (c .before .before .before .before .args .s .now) (c .before .before .before .before .args .out .now) (search needs) (c .before .if1 .left)
+write-requires c κs =
+    let at-start = c .before .before .before .before in
+    fits (at-start .args .values) (at-start .args .s .now) (at-start .args .out .now) (search needs) (c .before .if1 .left)
 
 returns-2 : tie.Need-returns-2
-returns-2 c = written (c .before .before .before .before .before .before .before .args .values) (c .before .before .before .before .before .before .before .args .s .now) (c .before .before .before .before .before .before .before .args .out .now) (c .before .before .before .before .if1 .left) (c .before .before .write .ensures)
+returns-2 c =
+    let at-write = c .before .before in
+    let at-if1 = at-write .before .before in
+    let at-start = at-if1 .before .before .before in
+    written (at-start .args .values) (at-start .args .s .now) (at-start .args .out .now) (at-if1 .if1 .left) (at-write .write .ensures)
 
 pub put-strip-spec : {M : Type 1} → statement M
 put-strip-spec = tie.close (tie.spec returns write-requires (λ c. search needs) returns-2)

@@ -92,7 +92,10 @@ same-length-2 c =
     kept (head .loop .inv) (start head .pre)
 
 returns-2 : tie.Need-returns-2 Inv-loop μ-loop
-returns-2 c = unfit (c .before .before .before .before .loop .inv) (c .before .before .token-at .ensures) (c .enum-told2 .given .1)
+returns-2 c =
+    let token = c .before .before in
+    let head = token .before .before in
+    unfit (head .loop .inv) (token .token-at .ensures) (c .enum-told2 .given .1)
 
 pub write-spec : {M : Type 1} → statement M
 write-spec =

@@ -58,19 +58,39 @@ module _ (v : Values) (s : List ℕ) {t : Bool} (e : t ≡ is-content s) where
         ∙ ap (λ (b : Bool). over (pick b (strip v s) []) before) (le-leb (length (strip v s)) (length before) (omega (arith, h, p .0))))
 
 returns : tie.Need-returns
-returns c = refused (c .before .before .before .before .args .values) (c .before .before .before .before .args .s .now) (c .before .is-content .ensures) (c .before .before .before .before .args .out .now) (not-true (c .before .is-content .result) (c .if1 .taken))
+returns c =
+    let at-start = c .before .before .before .before in
+    refused (at-start .args .values) (at-start .args .s .now) (c .before .is-content .ensures) (at-start .args .out .now) (not-true (c .before .is-content .result) (c .if1 .taken))
 
 write-requires : tie.Need-write-requires
-write-requires c κs = fits (c .before .before .before .before .before .args .values) (c .before .before .before .before .before .args .s .now) (c .before .before .is-content .ensures) (search needs) (not-false (c .before .before .is-content .result) (c .before .if1 .left))
+write-requires c κs =
+    let at-is-content = c .before .before in
+    let at-start = at-is-content .before .before .before in
+    fits (at-start .args .values) (at-start .args .s .now) (at-is-content .is-content .ensures) (search needs) (not-false (at-is-content .is-content .result) (c .before .if1 .left))
 
 returns-2 : tie.Need-returns-2
-returns-2 c = short (c .before .before .before .before .before .before .before .before .args .values) (c .before .before .before .before .before .before .before .before .args .s .now) (c .before .before .before .before .before .is-content .ensures) (c .before .before .before .before .before .before .before .before .args .out .now) (not-false (c .before .before .before .before .before .is-content .result) (c .before .before .before .before .if1 .left)) (c .before .before .write .ensures) (c .if2 .taken)
+returns-2 c =
+    let at-write = c .before .before in
+    let at-if1 = at-write .before .before in
+    let at-is-content = at-if1 .before in
+    let at-start = at-is-content .before .before .before in
+    short (at-start .args .values) (at-start .args .s .now) (at-is-content .is-content .ensures) (at-start .args .out .now) (not-false (at-is-content .is-content .result) (at-if1 .if1 .left)) (at-write .write .ensures) (c .if2 .taken)
 
 part-lay-end : tie.Need-part-lay-end
-part-lay-end c = front-inside (strip (c .before .before .before .before .before .before .before .before .before .before .args .values) (c .before .before .before .before .before .before .before .before .before .before .args .s .now)) (c .before .before .before .before .write .ensures)
+part-lay-end c =
+    let at-write = c .before .before .before .before in
+    let at-start = at-write .before .before .before .before .before .before in
+    front-inside (strip (at-start .args .values) (at-start .args .s .now)) (at-write .write .ensures)
 
 returns-3 : tie.Need-returns-3
-returns-3 c = written (c .before .before .before .before .before .before .before .before .before .before .before .before .before .before .args .values) (c .before .before .before .before .before .before .before .before .before .before .before .before .before .before .args .s .now) (c .before .before .before .before .before .before .before .before .before .before .before .is-content .ensures) (c .before .before .before .before .before .before .before .before .before .before .before .before .before .before .args .out .now) (not-false (c .before .before .before .before .before .before .before .before .before .before .before .is-content .result) (c .before .before .before .before .before .before .before .before .before .before .if1 .left)) (c .before .before .before .before .before .before .before .before .write .ensures) (c .before .before .before .before .before .before .if2 .left) (c .before .before .lay .ensures)
+returns-3 c =
+    let at-lay = c .before .before in
+    let at-if2 = at-lay .before .before .before .before in
+    let at-write = at-if2 .before .before in
+    let at-if1 = at-write .before .before in
+    let at-is-content = at-if1 .before in
+    let at-start = at-is-content .before .before .before in
+    written (at-start .args .values) (at-start .args .s .now) (at-is-content .is-content .ensures) (at-start .args .out .now) (not-false (at-is-content .is-content .result) (at-if1 .if1 .left)) (at-write .write .ensures) (at-if2 .if2 .left) (at-lay .lay .ensures)
 
 pub write-strip-spec : {M : Type 1} → statement M
 write-strip-spec =

@@ -68,7 +68,13 @@ add-at-2 : tie.Need-add-at-2 Inv-block μ-block Inv-line μ-line Inv-content μ-
 add-at-2 c = omega arith
 
 block-holds : tie.Need-block-holds Inv-block μ-block Inv-line μ-line Inv-content μ-content
-block-holds c = (omega arith, c .before .before .before .before .before .before .line .inv .1, font (expansion (c .before .before .before .before .before .before .line .inv .2) (c .before .before .before .before .before .byte-at2 .ensures) (c .before .before .before .before .is-expansion .ensures) (c .before .before .before .if2 .left)) (c .before .before .byte-at3 .ensures) (c .before .is-count .ensures) (c .if3 .left))
+block-holds c =
+    let at-byte-at3 = c .before .before in
+    let at-if2 = at-byte-at3 .before in
+    let at-is-expansion = at-if2 .before in
+    let at-byte-at2 = at-is-expansion .before in
+    let at-the-line = at-byte-at2 .before in
+    (omega arith, at-the-line .line .inv .1, font (expansion (at-the-line .line .inv .2) (at-byte-at2 .byte-at2 .ensures) (at-is-expansion .is-expansion .ensures) (at-if2 .if2 .left)) (at-byte-at3 .byte-at3 .ensures) (c .before .is-count .ensures) (c .if3 .left))
 
 byte-at-requires-4 :
     tie.Need-byte-at-requires-4 Inv-block μ-block Inv-line μ-line Inv-content μ-content
@@ -90,10 +96,22 @@ passed-requires : tie.Need-passed-requires Inv-block μ-block Inv-line μ-line I
 passed-requires c κs = omega arith
 
 block-less : tie.Need-block-less Inv-block μ-block Inv-line μ-line Inv-content μ-content
-block-less c = let g = next-item (c .before .before .before .before .before .before .before .block .inv .2) (c .before .before .before .before .before .before .before .block .inv .1) (c .before .before .before .before .before .before .byte-at4 .ensures) (c .before .before .before .before .before .kind-of .ensures) (c .before .before .before .before .item-at .ensures) (c .before .before .found .given .1) (c .passed .ensures) in omega (arith, g .0, g .2 .inside)
+block-less c =
+    let at-found = c .before .before in
+    let at-item-at = at-found .before .before in
+    let at-kind-of = at-item-at .before in
+    let at-byte-at4 = at-kind-of .before in
+    let at-block = at-byte-at4 .before in
+    let g = next-item (at-block .block .inv .2) (at-block .block .inv .1) (at-byte-at4 .byte-at4 .ensures) (at-kind-of .kind-of .ensures) (at-item-at .item-at .ensures) (at-found .found .given .1) (c .passed .ensures) in omega (arith, g .0, g .2 .inside)
 
 block-again : tie.Need-block-again Inv-block μ-block Inv-line μ-line Inv-content μ-content
-block-again c = let g = next-item (c .before .before .before .before .before .before .before .block .inv .2) (c .before .before .before .before .before .before .before .block .inv .1) (c .before .before .before .before .before .before .byte-at4 .ensures) (c .before .before .before .before .before .kind-of .ensures) (c .before .before .before .before .item-at .ensures) (c .before .before .found .given .1) (c .passed .ensures) in (omega (arith, g .0), g .1, g .2)
+block-again c =
+    let at-found = c .before .before in
+    let at-item-at = at-found .before .before in
+    let at-kind-of = at-item-at .before in
+    let at-byte-at4 = at-kind-of .before in
+    let at-block = at-byte-at4 .before in
+    let g = next-item (at-block .block .inv .2) (at-block .block .inv .1) (at-byte-at4 .byte-at4 .ensures) (at-kind-of .kind-of .ensures) (at-item-at .item-at .ensures) (at-found .found .given .1) (c .passed .ensures) in (omega (arith, g .0), g .1, g .2)
 
 enum-told : tie.Need-enum-told Inv-block μ-block Inv-line μ-line Inv-content μ-content
 enum-told c = search needs
@@ -114,7 +132,15 @@ line-less : tie.Need-line-less Inv-block μ-block Inv-line μ-line Inv-content �
 line-less c = omega arith
 
 line-again : tie.Need-line-again Inv-block μ-block Inv-line μ-line Inv-content μ-content
-line-again c = (omega arith, c .before .before .before .before .before .before .before .before .block .inv .1, next-block (closed (c .before .before .before .before .before .before .before .before .block .inv .2) (c .before .before .before .before .before .before .before .byte-at4 .ensures) (c .before .before .before .before .before .before .kind-of .ensures) (c .before .before .before .before .before .item-at .ensures) (c .before .before .before .enum-told .given .1)) (c .before .before .byte-at5 .ensures) (c .before .is-expansion2 .ensures) (c .if4 .left))
+line-again c =
+    let at-byte-at5 = c .before .before in
+    let at-enum-told = at-byte-at5 .before in
+    let at-item-at = at-enum-told .before .before in
+    let at-kind-of = at-item-at .before in
+    let at-byte-at4 = at-kind-of .before in
+    let at-block = at-byte-at4 .before in
+    let at-the-line = at-block .before .before .before .before .before .before .before in
+    (omega (arith, at-block .block .inv .0, at-the-line .line .inv .0), at-block .block .inv .1, next-block (closed (at-block .block .inv .2) (at-byte-at4 .byte-at4 .ensures) (at-kind-of .kind-of .ensures) (at-item-at .item-at .ensures) (at-enum-told .enum-told .given .1)) (at-byte-at5 .byte-at5 .ensures) (c .before .is-expansion2 .ensures) (c .if4 .left))
 
 byte-at-requires-6 :
     tie.Need-byte-at-requires-6 Inv-block μ-block Inv-line μ-line Inv-content μ-content
@@ -124,7 +150,14 @@ add-at-3 : tie.Need-add-at-3 Inv-block μ-block Inv-line μ-line Inv-content μ-
 add-at-3 c = omega arith
 
 returns-2 : tie.Need-returns-2 Inv-block μ-block Inv-line μ-line Inv-content μ-content
-returns-2 c = record { answer = ends (closed (c .before .before .before .before .before .before .before .before .before .before .before .block .inv .2) (c .before .before .before .before .before .before .before .before .before .before .byte-at4 .ensures) (c .before .before .before .before .before .before .before .before .before .kind-of .ensures) (c .before .before .before .before .before .before .before .before .item-at .ensures) (c .before .before .before .before .before .before .enum-told .given .1)) (c .before .before .byte-at6 .ensures) (c .before .if5 .taken) (c .if6 .taken) }
+returns-2 c =
+    let at-byte-at6 = c .before .before in
+    let at-enum-told = at-byte-at6 .before .before .before .before in
+    let at-item-at = at-enum-told .before .before in
+    let at-kind-of = at-item-at .before in
+    let at-byte-at4 = at-kind-of .before in
+    let at-block = at-byte-at4 .before in
+    record { answer = ends (closed (at-block .block .inv .2) (at-byte-at4 .byte-at4 .ensures) (at-kind-of .kind-of .ensures) (at-item-at .item-at .ensures) (at-enum-told .enum-told .given .1)) (at-byte-at6 .byte-at6 .ensures) (c .before .if5 .taken) (c .if6 .taken) }
 
 add-seen : tie.Need-add-seen Inv-block μ-block Inv-line μ-line Inv-content μ-content
 add-seen c = omega arith
@@ -136,22 +169,62 @@ content-less : tie.Need-content-less Inv-block μ-block Inv-line μ-line Inv-con
 content-less c = omega arith
 
 content-again : tie.Need-content-again Inv-block μ-block Inv-line μ-line Inv-content μ-content
-content-again c = (c .before .before .before .before .before .before .before .before .before .before .before .block .inv .1, next-line (closed (c .before .before .before .before .before .before .before .before .before .before .before .block .inv .2) (c .before .before .before .before .before .before .before .before .before .before .byte-at4 .ensures) (c .before .before .before .before .before .before .before .before .before .kind-of .ensures) (c .before .before .before .before .before .before .before .before .item-at .ensures) (c .before .before .before .before .before .before .enum-told .given .1)) (at-line (closed (c .before .before .before .before .before .before .before .before .before .before .before .block .inv .2) (c .before .before .before .before .before .before .before .before .before .before .byte-at4 .ensures) (c .before .before .before .before .before .before .before .before .before .kind-of .ensures) (c .before .before .before .before .before .before .before .before .item-at .ensures) (c .before .before .before .before .before .before .enum-told .given .1)) (c .before .before .before .before .before .byte-at5 .ensures) (c .before .before .before .before .is-expansion2 .ensures) (c .before .before .before .if4 .taken) (c .before .before .byte-at6 .ensures) (c .before .if5 .left)) (c .if7 .left))
+content-again c =
+    let at-byte-at6 = c .before .before in
+    let at-if4 = at-byte-at6 .before in
+    let at-is-expansion2 = at-if4 .before in
+    let at-byte-at5 = at-is-expansion2 .before in
+    let at-enum-told = at-byte-at5 .before in
+    let at-item-at = at-enum-told .before .before in
+    let at-kind-of = at-item-at .before in
+    let at-byte-at4 = at-kind-of .before in
+    let at-block = at-byte-at4 .before in
+    let shut = closed (at-block .block .inv .2) (at-byte-at4 .byte-at4 .ensures) (at-kind-of .kind-of .ensures) (at-item-at .item-at .ensures) (at-enum-told .enum-told .given .1) in
+    (at-block .block .inv .1, next-line shut (at-line shut (at-byte-at5 .byte-at5 .ensures) (at-is-expansion2 .is-expansion2 .ensures) (at-if4 .if4 .taken) (at-byte-at6 .byte-at6 .ensures) (c .before .if5 .left)) (c .if7 .left))
 
 returns-3 : tie.Need-returns-3 Inv-block μ-block Inv-line μ-line Inv-content μ-content
 returns-3 c = record { answer = no-expansion (c .before .before .before .line .inv .2) (c .before .before .byte-at2 .ensures) (c .before .is-expansion .ensures) (c .if2 .taken) }
 
 returns-4 : tie.Need-returns-4 Inv-block μ-block Inv-line μ-line Inv-content μ-content
-returns-4 c = record { answer = no-font (expansion (c .before .before .before .before .before .before .line .inv .2) (c .before .before .before .before .before .byte-at2 .ensures) (c .before .before .before .before .is-expansion .ensures) (c .before .before .before .if2 .left)) (c .before .before .byte-at3 .ensures) (c .before .is-count .ensures) (c .if3 .taken) }
+returns-4 c =
+    let at-byte-at3 = c .before .before in
+    let at-if2 = at-byte-at3 .before in
+    let at-is-expansion = at-if2 .before in
+    let at-byte-at2 = at-is-expansion .before in
+    let at-the-line = at-byte-at2 .before in
+    record { answer = no-font (expansion (at-the-line .line .inv .2) (at-byte-at2 .byte-at2 .ensures) (at-is-expansion .is-expansion .ensures) (at-if2 .if2 .left)) (at-byte-at3 .byte-at3 .ensures) (c .before .is-count .ensures) (c .if3 .taken) }
 
 returns-5 : tie.Need-returns-5 Inv-block μ-block Inv-line μ-line Inv-content μ-content
-returns-5 c = record { answer = no-item (c .before .before .before .before .before .before .block .inv .2) (c .before .before .before .before .before .byte-at4 .ensures) (c .before .before .before .before .kind-of .ensures) (c .before .before .before .item-at .ensures) (c .before .found2 .given .1) }
+returns-5 c =
+    let at-item-at = c .before .before .before in
+    let at-kind-of = at-item-at .before in
+    let at-byte-at4 = at-kind-of .before in
+    let at-block = at-byte-at4 .before in
+    record { answer = no-item (at-block .block .inv .2) (at-byte-at4 .byte-at4 .ensures) (at-kind-of .kind-of .ensures) (at-item-at .item-at .ensures) (c .before .found2 .given .1) }
 
 returns-6 : tie.Need-returns-6 Inv-block μ-block Inv-line μ-line Inv-content μ-content
-returns-6 c = record { answer = no-end (closed (c .before .before .before .before .before .before .before .before .before .before .before .block .inv .2) (c .before .before .before .before .before .before .before .before .before .before .byte-at4 .ensures) (c .before .before .before .before .before .before .before .before .before .kind-of .ensures) (c .before .before .before .before .before .before .before .before .item-at .ensures) (c .before .before .before .before .before .before .enum-told .given .1)) (c .before .before .byte-at6 .ensures) (c .before .if5 .taken) (c .if6 .left) }
+returns-6 c =
+    let at-byte-at6 = c .before .before in
+    let at-enum-told = at-byte-at6 .before .before .before .before in
+    let at-item-at = at-enum-told .before .before in
+    let at-kind-of = at-item-at .before in
+    let at-byte-at4 = at-kind-of .before in
+    let at-block = at-byte-at4 .before in
+    record { answer = no-end (closed (at-block .block .inv .2) (at-byte-at4 .byte-at4 .ensures) (at-kind-of .kind-of .ensures) (at-item-at .item-at .ensures) (at-enum-told .enum-told .given .1)) (at-byte-at6 .byte-at6 .ensures) (c .before .if5 .taken) (c .if6 .left) }
 
 returns-7 : tie.Need-returns-7 Inv-block μ-block Inv-line μ-line Inv-content μ-content
-returns-7 c = record { answer = fifth-line (closed (c .before .before .before .before .before .before .before .before .before .before .before .block .inv .2) (c .before .before .before .before .before .before .before .before .before .before .byte-at4 .ensures) (c .before .before .before .before .before .before .before .before .before .kind-of .ensures) (c .before .before .before .before .before .before .before .before .item-at .ensures) (c .before .before .before .before .before .before .enum-told .given .1)) (at-line (closed (c .before .before .before .before .before .before .before .before .before .before .before .block .inv .2) (c .before .before .before .before .before .before .before .before .before .before .byte-at4 .ensures) (c .before .before .before .before .before .before .before .before .before .kind-of .ensures) (c .before .before .before .before .before .before .before .before .item-at .ensures) (c .before .before .before .before .before .before .enum-told .given .1)) (c .before .before .before .before .before .byte-at5 .ensures) (c .before .before .before .before .is-expansion2 .ensures) (c .before .before .before .if4 .taken) (c .before .before .byte-at6 .ensures) (c .before .if5 .left)) (c .if7 .taken) }
+returns-7 c =
+    let at-byte-at6 = c .before .before in
+    let at-if4 = at-byte-at6 .before in
+    let at-is-expansion2 = at-if4 .before in
+    let at-byte-at5 = at-is-expansion2 .before in
+    let at-enum-told = at-byte-at5 .before in
+    let at-item-at = at-enum-told .before .before in
+    let at-kind-of = at-item-at .before in
+    let at-byte-at4 = at-kind-of .before in
+    let at-block = at-byte-at4 .before in
+    let shut = closed (at-block .block .inv .2) (at-byte-at4 .byte-at4 .ensures) (at-kind-of .kind-of .ensures) (at-item-at .item-at .ensures) (at-enum-told .enum-told .given .1) in
+    record { answer = fifth-line shut (at-line shut (at-byte-at5 .byte-at5 .ensures) (at-is-expansion2 .is-expansion2 .ensures) (at-if4 .if4 .taken) (at-byte-at6 .byte-at6 .ensures) (c .before .if5 .left)) (c .if7 .taken) }
 
 pub read-spec : {M : Type 1} → statement M
 read-spec =

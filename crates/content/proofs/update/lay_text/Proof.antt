@@ -8,7 +8,9 @@ use native.Mathlib.Omega.{arith}
 use borrow.Author.Needs.{needs}
 use lib.ListN.{length, drop}
 use Rattle.content.specs.Machine.{start}
+use Rattle.content.specs.Position.{Runs}
 use Rattle.content.specs.Update.{laid}
+use Rattle.content.specs.declared.position.Run.the-variants.{Found}
 use Rattle.content.proofs.Laying.{Laid-to, not-laid, laid-past, laid-on, laid-all}
 use Rattle.content.proofs.Stretches.{found, found-none}
 use Rattle.content.proofs.update.lay_text.Statement.{statement}
@@ -21,65 +23,98 @@ Inv-loop s₀ text from rest count₀ reader₀ s count reader =
 abbrev μ-loop : tie.MeasureT-loop
 μ-loop s₀ text from rest count₀ reader₀ s count reader = length s - reader .at
 
+-- The loop's head before a run that is found, the start before the loop, and what is found.
+abbrev loop-of : tie.After-run Inv-loop μ-loop → tie.At-loop Inv-loop μ-loop
+loop-of c = c .before .before .before .before
+
+abbrev start-of : tie.At-loop Inv-loop μ-loop → tie.Start Inv-loop μ-loop
+start-of c = c .before .before .before .before .before
+
+run-of : (c : tie.After-run Inv-loop μ-loop) → let r = c .run .given .0 in Runs (loop-of c .loop .s) (loop-of c .loop .reader) (Found (r .0) (r .1 .0) (r .1 .1 .0))
+run-of c = found (loop-of c .loop .s) (loop-of c .loop .reader) (c .before .before .run-at .ensures) (c .run .given .1)
+
 loop-holds : tie.Need-loop-holds Inv-loop μ-loop
-loop-holds c = rw (c .begin .ensures) (not-laid (c .before .before .before .before .args .s .now) _, c .before .behind .ensures)
+loop-holds c =
+    let at-start = c .before .before .before .before in
+    rw (c .begin .ensures) (not-laid (at-start .args .s .now) _, c .before .behind .ensures)
 
 run-at-requires : tie.Need-run-at-requires Inv-loop μ-loop
 run-at-requires c κs = c .before .loop .inv .0 .inside
 
 sub-fill : tie.Need-sub-fill Inv-loop μ-loop
 sub-fill c =
-    let r = found (c .before .before .before .before .before .before .before .loop .s) (c .before .before .before .before .before .before .before .loop .reader) (c .before .before .before .before .before .run-at .ensures) (c .before .before .before .run .given .1) in
+    let r = run-of (c .before .before .before) in
     omega (arith, r .ahead, r .some, r .inside)
 
 part-fill-start : tie.Need-part-fill-start Inv-loop μ-loop
 part-fill-start c =
-    let r = found (c .before .before .before .before .before .before .before .loop .s) (c .before .before .before .before .before .before .before .loop .reader) (c .before .before .before .before .before .run-at .ensures) (c .before .before .before .run .given .1) in
+    let r = run-of (c .before .before .before) in
     omega (arith, r .ahead, r .some, r .inside)
 
 part-fill-end : tie.Need-part-fill-end Inv-loop μ-loop
 part-fill-end c =
-    let r = found (c .before .before .before .before .before .before .before .loop .s) (c .before .before .before .before .before .before .before .loop .reader) (c .before .before .before .before .before .run-at .ensures) (c .before .before .before .run .given .1) in
+    let r = run-of (c .before .before .before) in
     omega (arith, r .ahead, r .some, r .inside)
 
 sub-count : tie.Need-sub-count Inv-loop μ-loop
 sub-count c =
-    let r = found (c .before .before .before .before .before .before .before .before .before .before .before .before .loop .s) (c .before .before .before .before .before .before .before .before .before .before .before .before .loop .reader) (c .before .before .before .before .before .before .before .before .before .before .run-at .ensures) (c .before .before .before .before .before .before .before .before .run .given .1) in
+    let at-is-field-position = c .before .before .before .before .before .before in
+    let r = run-of (at-is-field-position .before .before) in
     omega (arith, r .ahead, r .some, r .inside)
 
 add-count : tie.Need-add-count Inv-loop μ-loop
 add-count c =
-    let r = found (c .before .before .before .before .before .before .before .before .before .before .before .before .loop .s) (c .before .before .before .before .before .before .before .before .before .before .before .before .loop .reader) (c .before .before .before .before .before .before .before .before .before .before .run-at .ensures) (c .before .before .before .before .before .before .before .before .run .given .1) in
-    omega (arith, r .ahead, r .some, r .inside, c .before .before .before .before .before .before .before .before .before .before .before .before .loop .inv .0 .few)
+    let at-run = c .before .before .before .before .before .before .before .before in
+    let r = run-of at-run in
+    omega (arith, r .ahead, r .some, r .inside, loop-of at-run .loop .inv .0 .few)
 
 loop-less : tie.Need-loop-less Inv-loop μ-loop
 loop-less c =
-    let r = found (c .before .before .before .before .before .before .before .before .before .before .before .before .loop .s) (c .before .before .before .before .before .before .before .before .before .before .before .before .loop .reader) (c .before .before .before .before .before .before .before .before .before .before .run-at .ensures) (c .before .before .before .before .before .before .before .before .run .given .1) in
-    let g = laid-on (c .before .before .before .before .before .before .before .before .before .before .before .before .loop .inv .0) r (c .before .before .before .before .before .before .is-field-position .ensures) (c .before .before .before .before .before .if1 .taken) (c .before .before .before .behind2 .ensures) (c .before .before .fill .ensures) refl in
-    omega (arith, r .ahead, r .some, g .inside, g .long, c .before .before .before .before .before .before .before .before .before .before .before .before .loop .inv .0 .long)
+    let at-fill = c .before .before in
+    let at-behind2 = at-fill .before in
+    let at-if1 = at-behind2 .before .before in
+    let at-is-field-position = at-if1 .before in
+    let at-run = at-is-field-position .before .before in
+    let at-loop = loop-of at-run in
+    let r = run-of at-run in
+    let g = laid-on (at-loop .loop .inv .0) r (at-is-field-position .is-field-position .ensures) (at-if1 .if1 .taken) (at-behind2 .behind2 .ensures) (at-fill .fill .ensures) refl in
+    omega (arith, r .ahead, r .some, g .inside, g .long, at-loop .loop .inv .0 .long)
 
 loop-again : tie.Need-loop-again Inv-loop μ-loop
 loop-again c =
-    let r = found (c .before .before .before .before .before .before .before .before .before .before .before .before .loop .s) (c .before .before .before .before .before .before .before .before .before .before .before .before .loop .reader) (c .before .before .before .before .before .before .before .before .before .before .run-at .ensures) (c .before .before .before .before .before .before .before .before .run .given .1) in
-    (laid-on (c .before .before .before .before .before .before .before .before .before .before .before .before .loop .inv .0) r (c .before .before .before .before .before .before .is-field-position .ensures) (c .before .before .before .before .before .if1 .taken) (c .before .before .before .behind2 .ensures) (c .before .before .fill .ensures) refl, c .before .before .before .before .before .before .before .before .before .before .before .before .loop .inv .1)
+    let at-fill = c .before .before in
+    let at-behind2 = at-fill .before in
+    let at-if1 = at-behind2 .before .before in
+    let at-is-field-position = at-if1 .before in
+    let at-run = at-is-field-position .before .before in
+    let at-loop = loop-of at-run in
+    let r = run-of at-run in
+    (laid-on (at-loop .loop .inv .0) r (at-is-field-position .is-field-position .ensures) (at-if1 .if1 .taken) (at-behind2 .behind2 .ensures) (at-fill .fill .ensures) refl, at-loop .loop .inv .1)
 
 loop-less-2 : tie.Need-loop-less-2 Inv-loop μ-loop
 loop-less-2 c =
-    let r = found (c .before .before .before .before .before .before .before .loop .s) (c .before .before .before .before .before .before .before .loop .reader) (c .before .before .before .before .before .run-at .ensures) (c .before .before .before .run .given .1) in
+    let r = run-of (c .before .before .before) in
     omega (arith, r .ahead, r .some, r .inside)
 
 loop-again-2 : tie.Need-loop-again-2 Inv-loop μ-loop
 loop-again-2 c =
-    let r = found (c .before .before .before .before .before .before .before .loop .s) (c .before .before .before .before .before .before .before .loop .reader) (c .before .before .before .before .before .run-at .ensures) (c .before .before .before .run .given .1) in
-    (laid-past (c .before .before .before .before .before .before .before .loop .inv .0) r (c .before .is-field-position .ensures) (c .if1 .left), c .before .before .before .before .before .before .before .loop .inv .1)
+    let at-run = c .before .before .before in
+    let at-loop = loop-of at-run in
+    let r = run-of at-run in
+    (laid-past (at-loop .loop .inv .0) r (c .before .is-field-position .ensures) (c .if1 .left), at-loop .loop .inv .1)
 
 same-length : tie.Need-same-length Inv-loop μ-loop
-same-length c = c .before .before .before .before .loop .inv .0 .long
+same-length c =
+    let at-loop = c .before .before .before .before in
+    at-loop .loop .inv .0 .long
 
 returns : tie.Need-returns Inv-loop μ-loop
 returns c =
-    let g = laid-all (c .before .before .before .before .loop .inv .0) (found-none (c .before .before .before .before .loop .s) (c .before .before .before .before .loop .reader) (c .before .before .run-at .ensures) (c .enum-told .given .1)) in
-    record { answer = g .0; bytes = g .1 ∙ ap (λ (l : List ℕ). laid l start (c .before .before .before .before .before .before .before .before .before .args .s .now)) (c .before .before .before .before .loop .inv .1) }
+    let at-run-at = c .before .before in
+    let at-loop = at-run-at .before .before in
+    let at-start = start-of at-loop in
+    let g = laid-all (at-loop .loop .inv .0) (found-none (at-loop .loop .s) (at-loop .loop .reader) (at-run-at .run-at .ensures) (c .enum-told .given .1)) in
+    record { answer = g .0; bytes = g .1 ∙ ap (λ (l : List ℕ). laid l start (at-start .args .s .now)) (at-loop .loop .inv .1) }
 
 pub lay-text-spec : {M : Type 1} → statement M
 lay-text-spec =

@@ -19,11 +19,14 @@ returns c =
 returns-2 : tie.Need-returns-2
 unfolding updated
 returns-2 c =
-    let p = c .before .before .before .before .before .all-characters in
-    let laid = c .before .before .lay-text .ensures in
-    let a = c .before .before .before .before .before .before .before .before .args in
+    let at-lay-text = c .before .before in
+    let at-if1 = at-lay-text .before .before in
+    let at-all-characters = at-if1 .before in
+    let p = at-all-characters .all-characters in
+    let laid = at-lay-text .lay-text .ensures in
+    let a = at-all-characters .before .before .before .args in
     update-told (a .s .now) (a .text .now) (a .from)
-    (rw (← p .ensures, not-false (p .result) (c .before .before .before .before .if1 .left)) (ap Laid (laid .answer))) (laid .bytes)
+    (rw (← p .ensures, not-false (p .result) (at-if1 .if1 .left)) (ap Laid (laid .answer))) (laid .bytes)
 
 pub update-spec : {M : Type 1} → statement M
 update-spec =

@@ -22,8 +22,9 @@ answers before identifier d r after s =
 
 returns : tie.Need-returns
 returns c =
-    let a = c .before .before .before .before .before .before .args in
-    let s = c .before .before .send in
+    let at-send = c .before .before in
+    let a = at-send .before .before .before .before .args in
+    let s = at-send .send in
     answers (a .out .now) (a .identifier) (a .bytes .now) (s .result) (s .last .0) (s .ensures)
 
 pub answer-spec : {M : Type 1} → statement M

@@ -21,10 +21,13 @@ builds before identifier d known r after k s =
 
 returns : tie.Need-returns
 returns c =
-    let a = c .before .before .before .before .before .before .before .before .args in
-    let s = c .before .before .send in
-    let k = c .before .before .before .listed in
-    let t = c .before .before .before .before .size-of in
+    let at-send = c .before .before in
+    let at-listed = at-send .before in
+    let at-size-of = at-listed .before in
+    let a = at-size-of .before .before .before .before .args in
+    let s = at-send .send in
+    let k = at-listed .listed in
+    let t = at-size-of .size-of in
     builds (a .out .now) (a .identifier) (a .bytes .now) (k .result) (s .result) (s .last .0) (k .ensures ∙ ap listed (t .ensures)) (s .ensures)
 
 pub build-spec : {M : Type 1} → statement M

@@ -15,9 +15,11 @@ covers w before h = rw (drop-of-length-le before {i = length w} h) (append-nil w
 
 returns : tie.Need-returns
 returns c =
-    let a = c .before .before .before .before .before .before .before .before .before .before .args in
-    c .before .before .copy2 .ensures
-    ∙ ap (λ (l : List ℕ). over l (a .out .now)) (c .before .before .before .before .before .before .copy .ensures ∙ covers (a .bytes .now) (replicate 16 0) (omega arith))
+    let at-copy2 = c .before .before in
+    let at-copy = at-copy2 .before .before .before .before in
+    let a = at-copy .before .before .before .before .args in
+    at-copy2 .copy2 .ensures
+    ∙ ap (λ (l : List ℕ). over l (a .out .now)) (at-copy .copy .ensures ∙ covers (a .bytes .now) (replicate 16 0) (omega arith))
 
 pub copy-turn-spec : {M : Type 1} → statement M
 copy-turn-spec =

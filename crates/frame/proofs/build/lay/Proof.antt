@@ -35,7 +35,9 @@ abbrev μ-loop : tie.MeasureT-loop
 μ-loop out₀ bytes i₀ out i = length bytes - i
 
 returns : tie.Need-returns Inv-loop μ-loop
-returns c = left-alone (c .before .before .before .args .out .now) (c .before .before .before .args .bytes .now) (c .if1 .taken)
+returns c =
+    let at-start = c .before .before .before in
+    left-alone (at-start .args .out .now) (at-start .args .bytes .now) (c .if1 .taken)
 
 loop-holds : tie.Need-loop-holds Inv-loop μ-loop
 loop-holds c = (omega arith, omega arith, refl, record { count = refl; inside = omega arith; same = refl })
@@ -45,19 +47,23 @@ loop-less c = omega arith
 
 loop-again : tie.Need-loop-again Inv-loop μ-loop
 loop-again c =
-    let l = c .before .before .before .before .before .before .loop in
-    let a = c .before .before .before .before .before .before .before .before .before .before .args in
-    let next = turned (a .out .now) (a .bytes .now) (l .out) (c .before .before .copy-turn .last .0) (l .i) 16 (l .i + 16 - l .i) (omega arith) (omega arith) (omega arith) (l .inv .3)
-    (c .before .before .copy-turn .ensures) in
+    let at-copy-turn = c .before .before in
+    let at-loop = at-copy-turn .before .before .before .before in
+    let l = at-loop .loop in
+    let a = at-loop .before .before .before .before .args in
+    let next = turned (a .out .now) (a .bytes .now) (l .out) (at-copy-turn .copy-turn .last .0) (l .i) 16 (l .i + 16 - l .i) (omega arith) (omega arith) (omega arith) (l .inv .3)
+    (at-copy-turn .copy-turn .ensures) in
     (omega arith, omega arith, laid-length next, next)
 
 returns-2 : tie.Need-returns-2 Inv-loop μ-loop
 returns-2 c =
-    let l = c .before .before .before .before .before .before .loop in
-    let a = c .before .before .before .before .before .before .before .before .before .before .args in
+    let at-copy = c .before .before in
+    let at-loop = at-copy .before .before .before .before in
+    let l = at-loop .loop in
+    let a = at-loop .before .before .before .before .args in
     let n = length (a .bytes .now) - l .i in
-    let all = turned (a .out .now) (a .bytes .now) (l .out) (c .before .before .copy .last .0) (l .i) n n refl (omega arith) (omega arith) (l .inv .3) (c .before .before .copy .ensures) in
-    laid (a .out .now) (a .bytes .now) (putMid (l .i) (length (l .out) - l .i) (l .out) (c .before .before .copy .last .0)) (l .inv .1)
+    let all = turned (a .out .now) (a .bytes .now) (l .out) (at-copy .copy .last .0) (l .i) n n refl (omega arith) (omega arith) (l .inv .3) (at-copy .copy .ensures) in
+    laid (a .out .now) (a .bytes .now) (putMid (l .i) (length (l .out) - l .i) (l .out) (at-copy .copy .last .0)) (l .inv .1)
     (all .same ∙ ap (λ (w : List ℕ). over w (a .out .now)) (whole (a .bytes .now) (l .i + n) (omega arith)))
   where
     whole : (s : List ℕ) (n : ℕ) → n ≡ length s → take n s ≡ s

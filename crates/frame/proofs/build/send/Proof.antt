@@ -83,11 +83,15 @@ returns-3 c =
 
 returns-4 : tie.Need-returns-4
 returns-4 c =
-    let tested = c .before .before .before .before .before .before .before .before in
-    let a = tested .before .before .before .before .before .args in
-    let lay = c .before .before .before .before .before .before .lay in
-    let wrap = c .before .before .wrap in
-    written (a .identifier) (a .out .now) (a .bytes .now) (lay .last .0) (lay .result) (tested .before .if2 .left) (tested .before .before .if1 .left) (lay .ensures)
+    let at-wrap = c .before .before in
+    let at-lay = at-wrap .before .before .before .before in
+    let tested = at-lay .before .before in
+    let at-if2 = tested .before in
+    let at-if1 = at-if2 .before in
+    let a = at-if1 .before .before .before .args in
+    let lay = at-lay .lay in
+    let wrap = at-wrap .wrap in
+    written (a .identifier) (a .out .now) (a .bytes .now) (lay .last .0) (lay .result) (at-if2 .if2 .left) (at-if1 .if1 .left) (lay .ensures)
     (a .known) (wrap .result) (wrap .last .0) (not-false (a .known) (tested .if3 .left)) (wrap .ensures)
 
 pub send-spec : {M : Type 1} → statement M

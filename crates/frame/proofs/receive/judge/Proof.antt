@@ -14,16 +14,22 @@ returns c =
 returns-2 : tie.Need-returns-2
 unfolding judged
 returns-2 c =
-    let k = c .before .before .before .listed in
+    let at-if1 = c .before .before in
+    let at-listed = at-if1 .before in
+    let at-size-of = at-listed .before in
+    let k = at-listed .listed in
     let f = c .before .fits2 in
-    rw (← c .before .before .before .before .size-of .ensures, ← k .ensures, ← f .ensures, not-false (k .result) (c .before .before .if1 .left), not-true (f .result) (c .if2 .taken))
+    rw (← at-size-of .size-of .ensures, ← k .ensures, ← f .ensures, not-false (k .result) (at-if1 .if1 .left), not-true (f .result) (c .if2 .taken))
 
 returns-3 : tie.Need-returns-3
 unfolding judged
 returns-3 c =
-    let k = c .before .before .before .listed in
+    let at-if1 = c .before .before in
+    let at-listed = at-if1 .before in
+    let at-size-of = at-listed .before in
+    let k = at-listed .listed in
     let f = c .before .fits2 in
-    rw (← c .before .before .before .before .size-of .ensures, ← k .ensures, ← f .ensures, not-false (k .result) (c .before .before .if1 .left), not-false (f .result) (c .if2 .left))
+    rw (← at-size-of .size-of .ensures, ← k .ensures, ← f .ensures, not-false (k .result) (at-if1 .if1 .left), not-false (f .result) (c .if2 .left))
 
 pub judge-spec : {M : Type 1} → statement M
 judge-spec =

@@ -22,15 +22,24 @@ unfolding framed
 returns-3 c = rw (← c .before .before .word .ensures .value) (search tests)
 
 slice-aggregate-check : tie.Need-slice-aggregate-check
-slice-aggregate-check c = sym (length-take-le (c .before .before .before .word .result + 3) (c .before .before .before .before .before .before .before .before .args .s .now) (omega arith))
+slice-aggregate-check c =
+    let at-word = c .before .before .before in
+    let at-start = at-word .before .before .before .before .before in
+    sym (length-take-le (at-word .word .result + 3) (at-start .args .s .now) (omega arith))
 
 returns-4 : tie.Need-returns-4
 unfolding framed
-returns-4 c = rw (← c .before .before .before .before .before .before .word .ensures .value, ← c .before .before .check .ensures) (search tests)
+returns-4 c =
+    let at-check = c .before .before in
+    let at-word = at-check .before .before .before .before in
+    rw (← at-word .word .ensures .value, ← at-check .check .ensures) (search tests)
 
 returns-5 : tie.Need-returns-5
 unfolding framed
-returns-5 c = rw (← c .before .before .before .before .before .before .before .before .word .ensures .value, ← c .before .before .before .before .check .ensures, ← c .judge .ensures) (search tests)
+returns-5 c =
+    let at-check = c .before .before .before .before in
+    let at-word = at-check .before .before .before .before in
+    rw (← at-word .word .ensures .value, ← at-check .check .ensures, ← c .judge .ensures) (search tests)
 
 pub receive-frame-spec : {M : Type 1} → statement M
 receive-frame-spec =

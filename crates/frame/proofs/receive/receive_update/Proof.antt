@@ -34,20 +34,23 @@ not-closed c =
 
 returns : tie.Need-returns
 returns c =
-    let a = c .before .before .before .before .args in
-    let u = c .before .before .update-size in
+    let at-update-size = c .before .before in
+    let a = at-update-size .before .before .args in
+    let u = at-update-size .update-size in
     closed (a .s .now) (u .result) (c .before .if1 .taken) (c .if2 .taken) ∙ ap (updated (a .s .now)) (u .ensures)
 
 returns-2 : tie.Need-returns-2
 returns-2 c =
-    let a = c .before .before .before .before .args in
-    let u = c .before .before .update-size in
+    let at-update-size = c .before .before in
+    let a = at-update-size .before .before .args in
+    let u = at-update-size .update-size in
     not-yet (a .s .now) (u .result) (not-closed (c .before)) (c .if3 .taken) ∙ ap (updated (a .s .now)) (u .ensures)
 
 returns-3 : tie.Need-returns-3
 returns-3 c =
-    let a = c .before .before .before .before .args in
-    let u = c .before .before .update-size in
+    let at-update-size = c .before .before in
+    let a = at-update-size .before .before .args in
+    let u = at-update-size .update-size in
     never (a .s .now) (u .result) (not-closed (c .before)) (c .if3 .left) ∙ ap (updated (a .s .now)) (u .ensures)
 
 pub receive-update-spec : {M : Type 1} → statement M

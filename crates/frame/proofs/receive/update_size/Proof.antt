@@ -62,8 +62,12 @@ shared-slice-read-if2 c = omega arith
 
 returns-2 : tie.Need-returns-2 Inv-loop μ-loop
 returns-2 c =
-    let l = c .before .before .before .before .loop in
-    at-mark (c .before .before .before .before .before .args .s .now) (l .n) (c .before .before .before .loop-test .taken) (c .before .before .if1 .left) (c .if2 .taken) (l .inv)
+    let at-if1 = c .before .before in
+    let at-loop-test = at-if1 .before in
+    let at-loop = at-loop-test .before in
+    let at-start = at-loop .before in
+    let l = at-loop .loop in
+    at-mark (at-start .args .s .now) (l .n) (at-loop-test .loop-test .taken) (at-if1 .if1 .left) (c .if2 .taken) (l .inv)
 
 add-n : tie.Need-add-n Inv-loop μ-loop
 add-n c = omega arith
@@ -73,8 +77,12 @@ loop-less c = omega arith
 
 loop-again : tie.Need-loop-again Inv-loop μ-loop
 loop-again c =
-    let l = c .before .before .before .before .loop in
-    passed-more (c .before .before .before .before .before .args .s .now) (l .n) (c .before .before .before .loop-test .taken) (c .before .before .if1 .left) (c .if2 .left) (l .inv)
+    let at-if1 = c .before .before in
+    let at-loop-test = at-if1 .before in
+    let at-loop = at-loop-test .before in
+    let at-start = at-loop .before in
+    let l = at-loop .loop in
+    passed-more (at-start .args .s .now) (l .n) (at-loop-test .loop-test .taken) (at-if1 .if1 .left) (c .if2 .left) (l .inv)
 
 returns-3 : tie.Need-returns-3 Inv-loop μ-loop
 returns-3 c =

@@ -35,14 +35,16 @@ loop-less c = omega arith
 
 loop-again : tie.Need-loop-again Inv-loop μ-loop
 loop-again c =
-    let s = c .before .before .before .before .before .args .s .now in
-    let l = c .before .before .before .loop in
+    let at-loop = c .before .before .before in
+    let s = at-loop .before .before .args .s .now in
+    let l = at-loop .loop in
     (omega arith, l .inv .1 ∙ turned (l .c) s (l .i) 32 (l .i + 32 - l .i) (omega arith) ∙ rw (c .check-from .ensures))
 
 returns : tie.Need-returns Inv-loop μ-loop
 returns c =
-    let s = c .before .before .before .before .before .args .s .now in
-    let l = c .before .before .before .loop in
+    let at-loop = c .before .before .before in
+    let s = at-loop .before .before .args .s .now in
+    let l = at-loop .loop in
     c .check-from2 .ensures ∙ ap (check-from (l .c)) (take-all (length s - l .i) (drop (l .i) s) (simp length-drop (omega arith))) ∙ sym (l .inv .1)
 
 pub check-spec : {M : Type 1} → statement M

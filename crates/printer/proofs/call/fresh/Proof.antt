@@ -22,20 +22,34 @@ returns c = let e = ne-eqb (length (c .before .before .args .state .now)) state-
 
 returns-2 : tie.Need-returns-2
 returns-2 c =
-    let kind = sym (c .before .before .before .before .before .within .ensures) ∙ not-true _ (c .before .before .before .before .if2 .taken) in
-    record { number = rw (size (c .before .before .before .before .before .before), kind) refl; state = rw (size (c .before .before .before .before .before .before), kind) (c .before .before .put-first .ensures) }
+    let at-put-first = c .before .before in
+    let at-if2 = at-put-first .before .before in
+    let at-within = at-if2 .before in
+    let at-if1 = at-within .before in
+    let kind = sym (at-within .within .ensures) ∙ not-true _ (at-if2 .if2 .taken) in
+    record { number = rw (size at-if1, kind) refl; state = rw (size at-if1, kind) (at-put-first .put-first .ensures) }
 
 returns-3 : tie.Need-returns-3
 returns-3 c =
-    let kind = model (c .before .before .before .before .before .before) in
-    let real = sym (c .before .before .before .before .before .is-real .ensures) ∙ not-true _ (c .before .before .before .before .if3 .taken) in
-    record { number = rw (size (c .before .before .before .before .before .before .before .before), kind, real) refl; state = rw (size (c .before .before .before .before .before .before .before .before), kind, real) (c .before .before .put-first2 .ensures) }
+    let at-put-first2 = c .before .before in
+    let at-if3 = at-put-first2 .before .before in
+    let at-is-real = at-if3 .before in
+    let at-if2 = at-is-real .before in
+    let at-if1 = at-if2 .before .before in
+    let kind = model at-if2 in
+    let real = sym (at-is-real .is-real .ensures) ∙ not-true _ (at-if3 .if3 .taken) in
+    record { number = rw (size at-if1, kind, real) refl; state = rw (size at-if1, kind, real) (at-put-first2 .put-first2 .ensures) }
 
 returns-4 : tie.Need-returns-4
 returns-4 c =
-    let kind = model (c .before .before .before .before .before .before) in
-    let real = sym (c .before .before .before .before .before .is-real .ensures) ∙ not-false _ (c .before .before .before .before .if3 .left) in
-    record { number = rw (size (c .before .before .before .before .before .before .before .before), kind, real) refl; state = rw (size (c .before .before .before .before .before .before .before .before), kind, real) (c .before .before .put-fresh .ensures) }
+    let at-put-fresh = c .before .before in
+    let at-if3 = at-put-fresh .before .before in
+    let at-is-real = at-if3 .before in
+    let at-if2 = at-is-real .before in
+    let at-if1 = at-if2 .before .before in
+    let kind = model at-if2 in
+    let real = sym (at-is-real .is-real .ensures) ∙ not-false _ (at-if3 .if3 .left) in
+    record { number = rw (size at-if1, kind, real) refl; state = rw (size at-if1, kind, real) (at-put-fresh .put-fresh .ensures) }
 
 pub fresh-spec : {M : Type 1} → statement M
 fresh-spec =

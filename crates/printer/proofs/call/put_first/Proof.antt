@@ -5,7 +5,11 @@ use Rattle.printer.proofs.call.put_first.Statement.{statement}
 use Rattle.printer.proofs.call.put_first.Tie as tie
 
 returns : tie.Need-returns
-returns c = c .before .before .put-fresh .ensures ∙ rw (c .before .before .before .moment .ensures, c .before .before .before .before .date-of .ensures)
+returns c =
+    let at-put-fresh = c .before .before in
+    let at-moment = at-put-fresh .before in
+    let at-date-of = at-moment .before in
+    at-put-fresh .put-fresh .ensures ∙ rw (at-moment .moment .ensures, at-date-of .date-of .ensures)
 
 pub put-first-spec : {M : Type 1} → statement M
 put-first-spec = tie.close (tie.spec (λ c κs. search needs) (λ c κs. search needs) (λ c κs. search needs) (λ c. search needs) returns)

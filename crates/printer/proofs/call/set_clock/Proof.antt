@@ -21,14 +21,22 @@ returns-2 c =
     record { number = rw (valid, real) refl; state = rw (valid, real) refl }
 
 put-clock-requires : tie.Need-put-clock-requires
-put-clock-requires c κs = valid-size _ (sym (c .before .before .before .before .valid-state .ensures) ∙ not-false _ (c .before .before .before .if1 .left))
+put-clock-requires c κs =
+    let at-if1 = c .before .before .before in
+    let at-valid-state = at-if1 .before in
+    valid-size _ (sym (at-valid-state .valid-state .ensures) ∙ not-false _ (at-if1 .if1 .left))
 
 returns-3 : tie.Need-returns-3
 unfolding set-clock
 returns-3 c =
-    let valid = sym (c .before .before .before .before .before .before .before .valid-state .ensures) ∙ not-false _ (c .before .before .before .before .before .before .if1 .left) in
-    let real = sym (c .before .before .before .before .before .is-real .ensures) ∙ not-false _ (c .before .before .before .before .if2 .left) in
-    record { number = rw (valid, real) refl; state = rw (valid, real) (c .before .before .put-clock .ensures) }
+    let at-put-clock = c .before .before in
+    let at-if2 = at-put-clock .before .before in
+    let at-is-real = at-if2 .before in
+    let at-if1 = at-is-real .before in
+    let at-valid-state = at-if1 .before in
+    let valid = sym (at-valid-state .valid-state .ensures) ∙ not-false _ (at-if1 .if1 .left) in
+    let real = sym (at-is-real .is-real .ensures) ∙ not-false _ (at-if2 .if2 .left) in
+    record { number = rw (valid, real) refl; state = rw (valid, real) (at-put-clock .put-clock .ensures) }
 
 pub set-clock-spec : {M : Type 1} → statement M
 set-clock-spec =

@@ -20,15 +20,24 @@ clock-requires : tie.Need-clock-requires
 clock-requires c κs = valid-size _ (sym (c .before .before .valid-state .ensures) ∙ not-false _ (c .before .if1 .left))
 
 put-clock-requires : tie.Need-put-clock-requires
-put-clock-requires c κs = valid-size _ (sym (c .before .before .before .before .before .valid-state .ensures) ∙ not-false _ (c .before .before .before .before .if1 .left))
+put-clock-requires c κs =
+    let at-if1 = c .before .before .before .before in
+    let at-valid-state = at-if1 .before in
+    valid-size _ (sym (at-valid-state .valid-state .ensures) ∙ not-false _ (at-if1 .if1 .left))
 
 returns-2 : tie.Need-returns-2
 unfolding tick-clock
 returns-2 c =
-    let valid = sym (c .before .before .before .before .before .before .before .before .valid-state .ensures) ∙ not-false _ (c .before .before .before .before .before .before .before .if1 .left) in
+    let at-put-clock = c .before .before in
+    let at-tick = at-put-clock .before in
+    let at-clock = at-tick .before .before in
+    let at-if1 = at-clock .before .before in
+    let at-valid-state = at-if1 .before in
+    let at-start = at-valid-state .before .before .before in
+    let valid = sym (at-valid-state .valid-state .ensures) ∙ not-false _ (at-if1 .if1 .left) in
     record {
       number = rw valid refl;
-      state = rw valid (c .before .before .put-clock .ensures ∙ ap (λ (now : Clock). bytes-of (with-clock (printer-of (c .before .before .before .before .before .before .before .before .before .before .before .args .state .now)) now)) (c .before .before .before .tick .ensures ∙ ap tick (c .before .before .before .before .before .clock .ensures)));
+      state = rw valid (at-put-clock .put-clock .ensures ∙ ap (λ (now : Clock). bytes-of (with-clock (printer-of (at-start .args .state .now)) now)) (at-tick .tick .ensures ∙ ap tick (at-clock .clock .ensures)));
     }
 
 pub tick-spec : {M : Type 1} → statement M

@@ -4,28 +4,48 @@ use Rattle.printer.proofs.change.change_jet.Statement.{statement}
 use Rattle.printer.proofs.change.change_jet.Tie as tie
 
 set-message-requires : tie.Need-set-message-requires
-set-message-requires c κs = (search needs, rw (c .before .enum-told .given .1) at (c .before .before .before .before .before .pre .2))
+set-message-requires c κs =
+    let at-start = c .before .before .before .before .before in
+    (search needs, rw (c .before .enum-told .given .1) at (at-start .pre .2))
 
 set-parameters-requires : tie.Need-set-parameters-requires
-set-parameters-requires c κs = (search needs, rw (c .before .enum-told2 .given .1) at (c .before .before .before .before .before .pre .2))
+set-parameters-requires c κs =
+    let at-start = c .before .before .before .before .before in
+    (search needs, rw (c .before .enum-told2 .given .1) at (at-start .pre .2))
 
 set-both-requires : tie.Need-set-both-requires
-set-both-requires c κs = (search needs, rw (c .before .enum-told3 .given .1) at (c .before .before .before .before .before .pre .2))
+set-both-requires c κs =
+    let at-start = c .before .before .before .before .before in
+    (search needs, rw (c .before .enum-told3 .given .1) at (at-start .pre .2))
 
 edit-message-requires : tie.Need-edit-message-requires
-edit-message-requires c κs = (search needs, c .before .before .before .before .before .pre .1, rw (c .before .enum-told4 .given .1) at (c .before .before .before .before .before .pre .2))
+edit-message-requires c κs =
+    let at-start = c .before .before .before .before .before in
+    (search needs, at-start .pre .1, rw (c .before .enum-told4 .given .1) at (at-start .pre .2))
 
 returns : tie.Need-returns
-returns c = rw (c .before .before .before .before .enum-told .given .1) (c .before .before .set-message .ensures)
+returns c =
+    let at-set-message = c .before .before in
+    let at-enum-told = at-set-message .before .before in
+    rw (at-enum-told .enum-told .given .1) (at-set-message .set-message .ensures)
 
 returns-2 : tie.Need-returns-2
-returns-2 c = rw (c .before .before .before .before .enum-told2 .given .1) (c .before .before .set-parameters .ensures)
+returns-2 c =
+    let at-set-parameters = c .before .before in
+    let at-enum-told2 = at-set-parameters .before .before in
+    rw (at-enum-told2 .enum-told2 .given .1) (at-set-parameters .set-parameters .ensures)
 
 returns-3 : tie.Need-returns-3
-returns-3 c = rw (c .before .before .before .before .enum-told3 .given .1) (c .before .before .set-both .ensures)
+returns-3 c =
+    let at-set-both = c .before .before in
+    let at-enum-told3 = at-set-both .before .before in
+    rw (at-enum-told3 .enum-told3 .given .1) (at-set-both .set-both .ensures)
 
 returns-4 : tie.Need-returns-4
-returns-4 c = rw (c .before .before .before .before .enum-told4 .given .1) (c .before .before .edit-message .ensures)
+returns-4 c =
+    let at-edit-message = c .before .before in
+    let at-enum-told4 = at-edit-message .before .before in
+    rw (at-enum-told4 .enum-told4 .given .1) (at-edit-message .edit-message .ensures)
 
 pub change-jet-spec : {M : Type 1} → statement M
 change-jet-spec =

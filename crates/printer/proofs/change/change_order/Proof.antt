@@ -20,10 +20,15 @@ at-least Both h = omega arith
 at-least Characters h = omega arith
 
 jet : (c : tie.Else1) → let a = c .before .before .before .before .before .args in Stands (a .state .now) (jet-number (a .d .now)) (c .before .place-in .result)
-jet c = stands (c .before .place-in .ensures) (c .if1 .left) (valid-size _ (c .before .before .before .before .before .pre .0)) (c .before .before .before .before .slice-known .given)
+jet c =
+    let at-slice-known = c .before .before .before .before in
+    let at-start = at-slice-known .before in
+    stands (c .before .place-in .ensures) (c .if1 .left) (valid-size _ (at-start .pre .0)) (at-slice-known .slice-known .given)
 
 place-in-requires : tie.Need-place-in-requires
-place-in-requires c κs = (valid-size _ (c .before .before .before .pre .0), at-least (c .before .before .before .args .what) (c .before .before .before .pre .1))
+place-in-requires c κs =
+    let at-start = c .before .before .before in
+    (valid-size _ (at-start .pre .0), at-least (at-start .args .what) (at-start .pre .1))
 
 returns : tie.Need-returns
 returns c = refused (here (not-named (c .before .place-in .ensures) (c .if1 .taken)))
@@ -32,14 +37,18 @@ part-change-jet-end : tie.Need-part-change-jet-end
 part-change-jet-end c = part-inside (jet c)
 
 change-jet-requires : tie.Need-change-jet-requires
-change-jet-requires c κs = let j = jet (c .before) in (part-size j, part-short j (c .before .before .before .before .before .before .pre .0), c .before .before .before .before .before .before .pre .1)
+change-jet-requires c κs =
+    let at-start = c .before .before .before .before .before .before in
+    let j = jet (c .before) in (part-size j, part-short j (at-start .pre .0), at-start .pre .1)
 
 returns-2 : tie.Need-returns-2
 returns-2 c =
-    let at-if1 = c .before .before .before .before in
+    let at-change-jet = c .before .before in
+    let at-if1 = at-change-jet .before .before in
+    let at-place-in = at-if1 .before in
+    let at-start = at-place-in .before .before .before .before in
     let j = jet at-if1 in
-    let s = c .before .before .before .before .before .before .before .before .before in
-    part-obeys (s .args .state .now) (s .args .d .now) j (named (at-if1 .before .place-in .ensures) (at-if1 .if1 .left)) (rw (part-jet j) at (c .before .before .change-jet .ensures))
+    part-obeys (at-start .args .state .now) (at-start .args .d .now) j (named (at-place-in .place-in .ensures) (at-if1 .if1 .left)) (rw (part-jet j) at (at-change-jet .change-jet .ensures))
 
 pub change-order-spec : {M : Type 1} → statement M
 change-order-spec =

@@ -10,7 +10,11 @@ returns c = jet-refused (here (denied (c .before .has-message .ensures) (c .if1 
 
 returns-2 : tie.Need-returns-2
 returns-2 c =
-    jet-behind (granted (c .before .before .before .before .before .before .before .before .before .has-message .ensures) (c .before .before .before .before .before .before .before .before .if1 .left)) (rw (c .before .before .before .before .word .ensures .value, lent-tail) at (c .before .before .edit-jet .ensures))
+    let at-edit-jet = c .before .before in
+    let at-word = at-edit-jet .before .before in
+    let at-if1 = at-word .before .before .before .before in
+    let at-has-message = at-if1 .before in
+    jet-behind (granted (at-has-message .has-message .ensures) (at-if1 .if1 .left)) (rw (at-word .word .ensures .value, lent-tail) at (at-edit-jet .edit-jet .ensures))
 
 pub edit-message-spec : {M : Type 1} → statement M
 edit-message-spec =

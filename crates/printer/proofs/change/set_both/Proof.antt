@@ -13,17 +13,25 @@ returns-2 : tie.Need-returns-2
 returns-2 c = jet-refused (past (granted (c .before .before .before .good-parameters .ensures) (c .before .before .if1 .left)) (here (denied (rw lent-tail at (c .before .is-content .ensures)) (c .if2 .taken))))
 
 put-both-requires : tie.Need-put-both-requires
-put-both-requires c κs = (
-  search needs,
-  search needs,
-  granted (c .before .before .before .before .good-parameters .ensures) (c .before .before .before .if1 .left),
-  rw lent-tail (content-short _ (granted (rw lent-tail at (c .before .before .is-content .ensures)) (c .before .if2 .left))),
-)
+put-both-requires c κs =
+    let at-is-content = c .before .before in
+    let at-if1 = at-is-content .before in
+    let at-good-parameters = at-if1 .before in (
+      search needs,
+      search needs,
+      granted (at-good-parameters .good-parameters .ensures) (at-if1 .if1 .left),
+      rw lent-tail (content-short _ (granted (rw lent-tail at (at-is-content .is-content .ensures)) (c .before .if2 .left))),
+    )
 
 returns-3 : tie.Need-returns-3
 returns-3 c =
-    jet-becomes (holds (granted (c .before .before .before .before .before .before .before .good-parameters .ensures) (c .before .before .before .before .before .before .if1 .left)) (holds (granted (rw lent-tail at (c .before .before .before .before .before .is-content .ensures)) (c .before .before .before .before .if2 .left)) end))
-    (rw lent-tail at (c .before .before .put-both .ensures))
+    let at-put-both = c .before .before in
+    let at-if2 = at-put-both .before .before in
+    let at-is-content = at-if2 .before in
+    let at-if1 = at-is-content .before in
+    let at-good-parameters = at-if1 .before in
+    jet-becomes (holds (granted (at-good-parameters .good-parameters .ensures) (at-if1 .if1 .left)) (holds (granted (rw lent-tail at (at-is-content .is-content .ensures)) (at-if2 .if2 .left)) end))
+    (rw lent-tail at (at-put-both .put-both .ensures))
 
 pub set-both-spec : {M : Type 1} → statement M
 set-both-spec =

@@ -13,7 +13,11 @@ put-message-requires : tie.Need-put-message-requires
 put-message-requires c κs = (search needs, rw lent-tail (content-short _ (granted (rw lent-tail at (c .before .before .is-content .ensures)) (c .before .if1 .left))))
 
 returns-2 : tie.Need-returns-2
-returns-2 c = jet-becomes (holds (granted (rw lent-tail at (c .before .before .before .before .before .is-content .ensures)) (c .before .before .before .before .if1 .left)) end) (rw lent-tail at (c .before .before .put-message .ensures))
+returns-2 c =
+    let at-put-message = c .before .before in
+    let at-if1 = at-put-message .before .before in
+    let at-is-content = at-if1 .before in
+    jet-becomes (holds (granted (rw lent-tail at (at-is-content .is-content .ensures)) (at-if1 .if1 .left)) end) (rw lent-tail at (at-put-message .put-message .ensures))
 
 pub set-message-spec : {M : Type 1} → statement M
 set-message-spec =

@@ -11,7 +11,11 @@ put-parameters-requires : tie.Need-put-parameters-requires
 put-parameters-requires c κs = (search needs, search needs, granted (c .before .before .good-parameters .ensures) (c .before .if1 .left))
 
 returns-2 : tie.Need-returns-2
-returns-2 c = jet-becomes (holds (granted (c .before .before .before .before .before .good-parameters .ensures) (c .before .before .before .before .if1 .left)) end) (c .before .before .put-parameters .ensures)
+returns-2 c =
+    let at-put-parameters = c .before .before in
+    let at-if1 = at-put-parameters .before .before in
+    let at-good-parameters = at-if1 .before in
+    jet-becomes (holds (granted (at-good-parameters .good-parameters .ensures) (at-if1 .if1 .left)) end) (at-put-parameters .put-parameters .ensures)
 
 pub set-parameters-spec : {M : Type 1} → statement M
 set-parameters-spec =

@@ -33,9 +33,11 @@ at-2 c = c .before .before .before .before .before .before
 -- Where the two jets stand, and how many positions they have.
 first : (c : tie.After-jet-place) → Stands (bytes c) 1 (c .jet-place .result)
 first c =
+    let at-slice-known = c .before .before .before .before in
+    let at-start = at-slice-known .before in
     record {
-      full = valid-size _ (c .before .before .before .before .before .pre);
-      known = c .before .before .before .before .slice-known .given;
+      full = valid-size _ (at-start .pre);
+      known = at-slice-known .slice-known .given;
       place = omega arith;
       least = omega arith;
       most = omega arith;
@@ -62,17 +64,19 @@ some-left {s} {k} e n = lt-ltb 0 k (omega arith)
 some : (c : tie.Else1) → ltb 0 (all-positions (printer-of (bytes (at-1 (at-2 (c .before)))))) ≡ true
 some c = some-left (counted (c .before)) (c .if1 .left)
 
-characters : (c : tie.Else2) → all-characters (c .before .before .before .before .before .before .before .before .before .before .before .before .before .before .before .before .before .args .text .now) ≡ true
+characters : (c : tie.Else2) → all-characters (at-1 (at-2 (c .before .before .before)) .before .before .before .before .before .args .text .now) ≡ true
 characters c = granted (c .before .all-characters .ensures) (c .if2 .left)
 
 -- The second jet when the first is written.
 still : (c : tie.After-slice-known2)
-    → let two = c .before .before .before .before .before .before .before .before .before .before .before .before .before in
+    → let two = at-2 (c .before .before .before .before .before .before .before) in
     let at = at-1 two .jet-place .result in
     Stands (putMid at (at + jet-size - at) (bytes (at-1 two)) (c .before .before .update-jet .last .0)) 2 (two .jet-place2 .result)
 still c =
-    let two = c .before .before .before .before .before .before .before .before .before .before .before .before .before in
-    let update-jet = c .before .before .update-jet in
+    let at-update-jet = c .before .before in
+    let at-positions2 = at-update-jet .before .before .before .before .before in
+    let two = at-positions2 .before .before .before .before .before .before in
+    let update-jet = at-update-jet .update-jet in
     second-stands (first (at-1 two)) (second two) (update-jet .last .0) (update-jet .kept .0) (c .slice-known2 .given)
 
 part-positions-end : tie.Need-part-positions-end
@@ -83,8 +87,8 @@ part-positions-end c =
 positions-requires : tie.Need-positions-requires
 positions-requires c κs =
     let at-jet-place = c .before .before .before .before .before in
-    let s = at-jet-place .before .before .before .before .before in
-    (part-size (first at-jet-place), part-short (first at-jet-place) (s .pre))
+    let at-start = at-jet-place .before .before .before .before .before in
+    (part-size (first at-jet-place), part-short (first at-jet-place) (at-start .pre))
 
 part-positions-end-2 : tie.Need-part-positions-end-2
 part-positions-end-2 c =
@@ -94,8 +98,9 @@ part-positions-end-2 c =
 positions-requires-2 : tie.Need-positions-requires-2
 positions-requires-2 c κs =
     let at-jet-place2 = c .before .before .before .before .before in
-    let s = at-jet-place2 .before .before .before .before .before .before .before .before in
-    (part-size (second at-jet-place2), part-short (second at-jet-place2) (s .pre))
+    let at-first-head = at-jet-place2 .before .before .before .before .before in
+    let at-start = at-first-head .before .before .before in
+    (part-size (second at-jet-place2), part-short (second at-jet-place2) (at-start .pre))
 
 returns : tie.Need-returns
 unfolding update-fields
@@ -109,43 +114,47 @@ returns-2 c =
 
 part-update-jet-end : tie.Need-part-update-jet-end
 part-update-jet-end c =
-    let at-jet-place = c .before .before .before .before .before .before .before .before .before .before .before .before in
+    let at-positions = c .before .before .before .before .before .before in
+    let at-jet-place = at-positions .before .before .before .before .before .before in
     part-inside (first at-jet-place)
 
 update-jet-requires : tie.Need-update-jet-requires
 update-jet-requires c κs =
-    let at-jet-place = c .before .before .before .before .before .before .before .before .before .before .before .before .before in
-    let s = at-jet-place .before .before .before .before .before in
-    (part-size (first at-jet-place), part-short (first at-jet-place) (s .pre))
+    let at-state2 = c .before .before .before .before .before .before in
+    let at-jet-place = at-state2 .before .before .before .before .before .before .before in
+    let at-start = at-jet-place .before .before .before .before .before in
+    (part-size (first at-jet-place), part-short (first at-jet-place) (at-start .pre))
 
 part-update-jet-end-2 : tie.Need-part-update-jet-end-2
 part-update-jet-end-2 c = part-inside (still c)
 
 update-jet-requires-2 : tie.Need-update-jet-requires-2
 update-jet-requires-2 c κs =
-    let at-if2 = c .before .before .before .before .before in
-    let at-jet-place2 = at-if2 .before .before .before .before .before .before .before .before .before in
+    let at-update-jet = c .before .before .before in
+    let at-positions2 = at-update-jet .before .before .before .before .before in
+    let at-jet-place2 = at-positions2 .before .before .before .before .before .before in
     let at-jet-place = at-jet-place2 .before .before .before in
-    let s = at-jet-place .before .before .before .before .before in (
+    let at-start = at-jet-place .before .before .before .before .before in (
       part-size (still (c .before)),
-      second-short (first at-jet-place) (second at-jet-place2) (c .before .before .before .update-jet .last .0) (c .before .before .before .update-jet .kept .0) (s .pre),
+      second-short (first at-jet-place) (second at-jet-place2) (at-update-jet .update-jet .last .0) (at-update-jet .update-jet .kept .0) (at-start .pre),
     )
 
 returns-3 : tie.Need-returns-3
 unfolding update-fields
 returns-3 c =
-    let at-update-jet = c .before .before .before .before .before .before in
+    let at-update-jet2 = c .before .before in
+    let at-update-jet = at-update-jet2 .before .before .before .before in
     let at-if2 = at-update-jet .before .before in
     let at-if1 = at-if2 .before .before in
     let at-positions2 = at-if1 .before in
     let at-jet-place2 = at-positions2 .before .before .before .before .before .before in
     let at-jet-place = at-jet-place2 .before .before .before in
-    let s = at-jet-place .before .before .before .before .before in
-    let text = s .args .text .now in
+    let at-start = at-jet-place .before .before .before .before .before in
+    let text = at-start .args .text .now in
     obeyed (holds (some at-if1) (holds (characters at-if2) end))
     (both-written (first at-jet-place) (second at-jet-place2) (at-update-jet .update-jet .last .0) (at-update-jet .update-jet .kept .0)
-    (λ (j : Jet). updated-jet j text) (λ (j : Jet). updated-jet j (drop (positions (first-of-head (printer-of (s .args .state .now)))) text))
-    (at-update-jet .update-jet .ensures) (rw (taken at-positions2) at (c .before .before .update-jet2 .ensures)))
+    (λ (j : Jet). updated-jet j text) (λ (j : Jet). updated-jet j (drop (positions (first-of-head (printer-of (at-start .args .state .now)))) text))
+    (at-update-jet .update-jet .ensures) (rw (taken at-positions2) at (at-update-jet2 .update-jet2 .ensures)))
 
 pub update-fields-spec : {M : Type 1} → statement M
 update-fields-spec =

@@ -27,8 +27,10 @@ is-digit-requires c κs = search needs
 
 returns : tie.Need-returns Inv-loop μ-loop
 returns c =
-    let l = c .before .before .before .before .loop in
-    sym (l .inv .2 ∙ digits-on (c .before .before .before .before .before .before .args .q .now) (l .i) {m = 21 - l .i} {k = 21 - (l .i + 1)} {j = l .i + 1} (omega arith) (omega arith) refl
+    let at-loop = c .before .before .before .before in
+    let at-start = at-loop .before .before in
+    let l = at-loop .loop in
+    sym (l .inv .2 ∙ digits-on (at-start .args .q .now) (l .i) {m = 21 - l .i} {k = 21 - (l .i + 1)} {j = l .i + 1} (omega arith) (omega arith) refl
     (sym (c .before .is-digit .ensures) ∙ not-true (c .before .is-digit .result) (c .if1 .taken)))
 
 add-i : tie.Need-add-i Inv-loop μ-loop
@@ -39,10 +41,12 @@ loop-less c = omega arith
 
 loop-again : tie.Need-loop-again Inv-loop μ-loop
 loop-again c =
-    let l = c .before .before .before .before .loop in (
+    let at-loop = c .before .before .before .before in
+    let at-start = at-loop .before .before in
+    let l = at-loop .loop in (
       omega arith,
       omega arith,
-      l .inv .2 ∙ digits-on (c .before .before .before .before .before .before .args .q .now) (l .i) {m = 21 - l .i} {k = 21 - (l .i + 1)} {j = l .i + 1} (omega arith) (omega arith) refl
+      l .inv .2 ∙ digits-on (at-start .args .q .now) (l .i) {m = 21 - l .i} {k = 21 - (l .i + 1)} {j = l .i + 1} (omega arith) (omega arith) refl
           (sym (c .before .is-digit .ensures) ∙ not-false (c .before .is-digit .result) (c .if1 .left)),
     )
 

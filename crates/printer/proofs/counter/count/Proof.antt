@@ -13,34 +13,44 @@ set-held : (c : tie.Else1) → is-set (counter-of (c .before .before .before .be
 set-held c = sym (c .before .is-set .ensures) ∙ not-false (c .before .is-set .result) (c .if1 .left)
 
 counts : (c : tie.Else1) → Counting (counter-of (c .before .before .before .before .args .c .now))
-counts c = valid-tells _ (c .before .before .before .before .pre .1) (set-held c)
+counts c =
+    let at-start = c .before .before .before .before in
+    valid-tells _ (at-start .pre .1) (set-held c)
 
 returns : tie.Need-returns
 returns c =
-    let start = c .before .before .before .before in
-    uncounted (start .args .c .now) (start .pre .0) (c .before .before .before .slice-known .given)
+    let at-slice-known = c .before .before .before in
+    let at-start = at-slice-known .before in
+    uncounted (at-start .args .c .now) (at-start .pre .0) (at-slice-known .slice-known .given)
     (sym (c .before .is-set .ensures) ∙ not-true (c .before .is-set .result) (c .if1 .taken))
 
 slice-aggregate-q : tie.Need-slice-aggregate-q
-slice-aggregate-q c = let start = c .before .before .before .before .before .before .before .before .before in sym (settings-long (start .args .c .now) (start .pre .0))
+slice-aggregate-q c =
+    let at-is-set = c .before .before .before .before .before .before in
+    let at-start = at-is-set .before .before .before in
+    sym (settings-long (at-start .args .c .now) (at-start .pre .0))
 
 next-value-requires : tie.Need-next-value-requires
 unfolding counter-of
 next-value-requires c κs =
-    let start = c .before .before .before .before .before .before .before .before .before in
-    let k = counts (c .before .before .before .before .before) in (
-      settings-long (start .args .c .now) (start .pre .0),
-      good-tells (take 26 (start .args .c .now)) (k .good) .digits,
-      rw (c .before .before .before .four-bytes .ensures) (k .most),
+    let at-four-bytes = c .before .before .before in
+    let at-if1 = at-four-bytes .before .before in
+    let at-start = at-if1 .before .before .before .before in
+    let k = counts at-if1 in (
+      settings-long (at-start .args .c .now) (at-start .pre .0),
+      good-tells (take 26 (at-start .args .c .now)) (k .good) .digits,
+      rw (at-four-bytes .four-bytes .ensures) (k .most),
       rw (c .before .three-bytes .ensures .0) (k .below),
     )
 
 next-batch-requires : tie.Need-next-batch-requires
 unfolding counter-of
 next-batch-requires c κs =
-    let start = c .before .before .before .before .before .before .before .before .before .before in (
-      settings-long (start .args .c .now) (start .pre .0),
-      rw (c .before .before .three-bytes .ensures .0) (counts (c .before .before .before .before .before .before) .below),
+    let at-three-bytes = c .before .before in
+    let at-if1 = at-three-bytes .before .before .before .before in
+    let at-start = at-if1 .before .before .before .before in (
+      settings-long (at-start .args .c .now) (at-start .pre .0),
+      rw (at-three-bytes .three-bytes .ensures .0) (counts at-if1 .below),
     )
 
 returns-2 : tie.Need-returns-2
@@ -51,10 +61,10 @@ returns-2 c =
     let three = value .before .before in
     let four = three .before .before in
     let set = four .before .before in
-    let start = set .before .before .before .before in
-    let q = take 26 (start .args .c .now) in
+    let at-start = set .before .before .before .before in
+    let q = take 26 (at-start .args .c .now) in
     told .put-count .ensures
-    ∙ counted-bytes (start .args .c .now) (start .pre .0) (set-held set)
+    ∙ counted-bytes (at-start .args .c .now) (at-start .pre .0) (set-held set)
     (value .next-value .ensures ∙ ap₂ (next-value q) (four .four-bytes .ensures) (three .three-bytes .ensures .0))
     (batch .next-batch .ensures ∙ ap (next-batch q) (three .three-bytes .ensures .0))
 

@@ -11,7 +11,10 @@ returns-2 : tie.Need-returns-2
 returns-2 c = rw (← c .before .before .before .initial .ensures .0, ← c .before .final-of .ensures .0) (search tests)
 
 returns-3 : tie.Need-returns-3
-returns-3 c = rw (← c .before .before .before .before .initial .ensures .0, ← c .before .before .final-of .ensures .0, ← c .lot .ensures .0) (search tests)
+returns-3 c =
+    let at-final-of = c .before .before in
+    let at-initial = at-final-of .before .before in
+    rw (← at-initial .initial .ensures .0, ← at-final-of .final-of .ensures .0, ← c .lot .ensures .0) (search tests)
 
 pub counts-spec : {M : Type 1} → statement M
 counts-spec =

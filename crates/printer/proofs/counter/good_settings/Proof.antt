@@ -20,25 +20,41 @@ unfolding good-settings
 returns-2 c = rw (← c .before .all-digits-in .ensures, not-true (c .before .all-digits-in .result) (c .if2 .taken)) (search tests)
 
 final-of-requires : tie.Need-final-of-requires
-final-of-requires c κs = (c .before .before .before .before .before .pre, digits-held c)
+final-of-requires c κs =
+    let at-start = c .before .before .before .before .before in
+    (at-start .pre, digits-held c)
 
 initial-requires : tie.Need-initial-requires
-initial-requires c κs = (c .before .before .before .before .before .before .pre, digits-held (c .before))
+initial-requires c κs =
+    let at-start = c .before .before .before .before .before .before in
+    (at-start .pre, digits-held (c .before))
 
 returns-3 : tie.Need-returns-3
 unfolding good-settings
 returns-3 c = rw (digits-held (c .before .before .before), ← c .before .before .final-of .ensures .0, ← c .before .initial .ensures .0) (search tests)
 
 step-requires : tie.Need-step-requires
-step-requires c κs = (c .before .before .before .before .before .before .before .before .pre, digits-held (c .before .before .before))
+step-requires c κs =
+    let at-if2 = c .before .before .before in
+    let at-start = at-if2 .before .before .before .before .before in
+    (at-start .pre, digits-held at-if2)
 
 returns-4 : tie.Need-returns-4
 unfolding good-settings
-returns-4 c = rw (digits-held (c .before .before .before .before .before), ← c .before .before .before .before .final-of .ensures .0, ← c .before .before .before .initial .ensures .0, ← c .before .step .ensures .0) (search tests)
+returns-4 c =
+    let at-initial = c .before .before .before in
+    let at-final-of = at-initial .before in
+    let at-if2 = at-final-of .before in
+    rw (digits-held at-if2, ← at-final-of .final-of .ensures .0, ← at-initial .initial .ensures .0, ← c .before .step .ensures .0) (search tests)
 
 returns-5 : tie.Need-returns-5
 unfolding good-settings
-returns-5 c = rw (digits-held (c .before .before .before .before .before .before), ← c .before .before .before .before .before .final-of .ensures .0, ← c .before .before .before .before .initial .ensures .0, ← c .before .before .step .ensures .0, ← c .lot .ensures .0) (search tests)
+returns-5 c =
+    let at-step = c .before .before in
+    let at-initial = at-step .before .before in
+    let at-final-of = at-initial .before in
+    let at-if2 = at-final-of .before in
+    rw (digits-held at-if2, ← at-final-of .final-of .ensures .0, ← at-initial .initial .ensures .0, ← at-step .step .ensures .0, ← c .lot .ensures .0) (search tests)
 
 pub good-settings-spec : {M : Type 1} → statement M
 good-settings-spec =

@@ -12,30 +12,33 @@ use Rattle.printer.proofs.counter.set_to.Tie as tie
 
 laid : (c : tie.After-lay) → let a = c .before .before .before .before .args in c .lay .last .0 ≡ over (a .q .now) (a .c .now)
 laid c =
-    let start = c .before .before .before .before in
-    settings-laid (start .args .c .now) (start .pre .0) (start .args .q .now) (start .pre .1) (c .lay .ensures)
+    let at-start = c .before .before .before .before in
+    settings-laid (at-start .args .c .now) (at-start .pre .0) (at-start .args .q .now) (at-start .pre .1) (c .lay .ensures)
 
-written : (c : tie.After-put-count) → c .put-count .last .0 ≡ counter-bytes (set-to (c .before .before .before .before .before .before .before .before .before .args .q .now))
+written : (c : tie.After-put-count) → let at-start = c .before .before .before .before .before .before .before .before .before in c .put-count .last .0 ≡ counter-bytes (set-to (at-start .args .q .now))
 written c =
-    let start = c .before .before .before .before .before .before .before .before .before in
+    let at-lay = c .before .before .before .before .before in
+    let at-start = at-lay .before .before .before .before in
     c .put-count .ensures
-    ∙ set-bytes (start .args .c .now) (start .pre .0) (start .args .q .now) (start .pre .1) (laid (c .before .before .before .before .before)) (c .before .initial .ensures .0)
+    ∙ set-bytes (at-start .args .c .now) (at-start .pre .0) (at-start .args .q .now) (at-start .pre .1) (laid at-lay) (c .before .initial .ensures .0)
 
 initial-requires : tie.Need-initial-requires
 initial-requires c κs =
-    let start = c .before .before .before .before .before .before .before in
-    (start .pre .1, good-tells (start .args .q .now) (start .pre .2) .digits)
+    let at-start = c .before .before .before .before .before .before .before in
+    (at-start .pre .1, good-tells (at-start .args .q .now) (at-start .pre .2) .digits)
 
 put-count-requires : tie.Need-put-count-requires
 put-count-requires c κs =
     let told = c .before .before .before .before in
-    let start = told .before .before .before .before in
-    length-set (told .lay .last .0) 26 1 ∙ ap length (laid told) ∙ length-over (start .args .q .now) (start .args .c .now) (omega arith) ∙ start .pre .0
+    let at-start = told .before .before .before .before in
+    length-set (told .lay .last .0) 26 1 ∙ ap length (laid told) ∙ length-over (at-start .args .q .now) (at-start .args .c .now) (omega arith) ∙ at-start .pre .0
 
 same-length : tie.Need-same-length
 same-length c =
-    let start = c .before .before .before .before .before .before .before .before .before .before .before in
-    ap length (written (c .before .before)) ∙ length-counter (set-to (start .args .q .now)) (start .pre .1) ∙ sym (start .pre .0)
+    let at-put-count = c .before .before in
+    let at-lay = at-put-count .before .before .before .before .before in
+    let at-start = at-lay .before .before .before .before in
+    ap length (written at-put-count) ∙ length-counter (set-to (at-start .args .q .now)) (at-start .pre .1) ∙ sym (at-start .pre .0)
 
 returns : tie.Need-returns
 returns c = written (c .before .before)

@@ -10,10 +10,10 @@ use borrow.Author.Needs.{needs}
 use Rattle.printer.proofs.counter.valid_counter.Statement.{statement}
 use Rattle.printer.proofs.counter.valid_counter.Tie as tie
 
-set-held : (c : tie.Else2) → is-set (counter-of (c .before .before .before .before .before .args .c .now)) ≡ true
+set-held : (c : tie.Else2) → let at-start = c .before .before .before .before .before in is-set (counter-of (at-start .args .c .now)) ≡ true
 set-held c = sym (c .before .is-set .ensures) ∙ not-false (c .before .is-set .result) (c .if2 .left)
 
-good-held : (c : tie.Else3) → good-settings (take 26 (c .before .before .before .before .before .before .before .before .args .c .now)) ≡ true
+good-held : (c : tie.Else3) → let at-start = c .before .before .before .before .before .before .before .before in good-settings (take 26 (at-start .args .c .now)) ≡ true
 good-held c = sym (c .before .good-settings .ensures) ∙ not-false (c .before .good-settings .result) (c .if3 .left)
 
 returns : tie.Need-returns
@@ -25,10 +25,14 @@ unfolding valid-counter counter-of
 returns-2 c = rw (← c .before .is-set .ensures, not-true (c .before .is-set .result) (c .if2 .taken)) (search tests)
 
 slice-aggregate-q : tie.Need-slice-aggregate-q
-slice-aggregate-q c = let start = c .before .before .before .before .before .before in sym (settings-long (start .args .c .now) (start .pre))
+slice-aggregate-q c =
+    let at-start = c .before .before .before .before .before .before in
+    sym (settings-long (at-start .args .c .now) (at-start .pre))
 
 good-settings-requires : tie.Need-good-settings-requires
-good-settings-requires c κs = let start = c .before .before .before .before .before .before in settings-long (start .args .c .now) (start .pre)
+good-settings-requires c κs =
+    let at-start = c .before .before .before .before .before .before in
+    settings-long (at-start .args .c .now) (at-start .pre)
 
 returns-3 : tie.Need-returns-3
 unfolding valid-counter counter-of
@@ -36,9 +40,11 @@ returns-3 c = rw (set-held (c .before .before .before), ← c .before .good-sett
 
 counts-requires : tie.Need-counts-requires
 counts-requires c κs =
-    let start = c .before .before .before .before .before .before .before .before .before .before in
-    let q = start .args .c .now in
-    (settings-long q (start .pre), good-tells (take 26 q) (good-held (c .before .before)) .digits)
+    let at-if3 = c .before .before in
+    let at-if1 = at-if3 .before .before .before .before .before in
+    let at-start = at-if1 .before .before .before in
+    let q = at-start .args .c .now in
+    (settings-long q (at-start .pre), good-tells (take 26 q) (good-held at-if3) .digits)
 
 returns-4 : tie.Need-returns-4
 unfolding valid-counter counter-of

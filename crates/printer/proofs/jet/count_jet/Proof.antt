@@ -11,8 +11,10 @@ count-requires c κs = search needs
 
 returns : tie.Need-returns
 returns c =
-    let entry = c .before .before .before .before .before in
-    counted-left (entry .args .jet .now) (entry .pre .0) (c .before .before .before .before .slice-known .given) (c .before .before .count .ensures)
+    let at-count = c .before .before in
+    let at-slice-known = at-count .before .before in
+    let at-start = at-slice-known .before in
+    counted-left (at-start .args .jet .now) (at-start .pre .0) (at-slice-known .slice-known .given) (at-count .count .ensures)
 
 pub count-jet-spec : {M : Type 1} → statement M
 count-jet-spec =

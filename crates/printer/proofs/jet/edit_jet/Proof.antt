@@ -13,17 +13,22 @@ use Rattle.printer.proofs.jet.edit_jet.Tie as tie
 
 -- What each answer leaves, when the message is back.
 left : (c : tie.After-slice-known2) {x : Edited} → c .before .before .edit .result ≡ x
-    → let entry = c .before .before .before .before .before .before .before .before in
-    BecomesJet (edit-tests (message (jet-of (entry .args .jet .now))) (entry .args .address) (entry .args .symbols .now))
-    (edited-jet (jet-of (entry .args .jet .now)) (entry .args .address) (entry .args .symbols .now)) (entry .args .jet .now) (number x)
-    (putMid 2 (2 + c .before .before .before .before .message-length .result - 2) (entry .args .jet .now) (c .before .before .edit .last .0))
+    → let at-edit = c .before .before in
+    let at-message-length = at-edit .before .before in
+    let at-start = at-message-length .before .before .before .before in
+    BecomesJet (edit-tests (message (jet-of (at-start .args .jet .now))) (at-start .args .address) (at-start .args .symbols .now))
+    (edited-jet (jet-of (at-start .args .jet .now)) (at-start .args .address) (at-start .args .symbols .now)) (at-start .args .jet .now) (number x)
+    (putMid 2 (2 + at-message-length .message-length .result - 2) (at-start .args .jet .now) (at-edit .edit .last .0))
 left c told =
-    let entry = c .before .before .before .before .before .before .before .before in
-    edited-left (entry .args .jet .now) (entry .pre .0) (c .before .before .before .before .before .before .before .slice-known .given)
-    (c .before .before .before .before .message-length .ensures)
-    (entry .pre .1)
-    (c .before .before .edit .kept .0)
-    (c .before .before .edit .ensures)
+    let at-edit = c .before .before in
+    let at-message-length = at-edit .before .before in
+    let at-slice-known = at-message-length .before .before .before in
+    let at-start = at-slice-known .before in
+    edited-left (at-start .args .jet .now) (at-start .pre .0) (at-slice-known .slice-known .given)
+    (at-message-length .message-length .ensures)
+    (at-start .pre .1)
+    (at-edit .edit .kept .0)
+    (at-edit .edit .ensures)
     told
 
 returns : tie.Need-returns

@@ -5,7 +5,9 @@ use Rattle.printer.proofs.jet.message.Statement.{statement}
 use Rattle.printer.proofs.jet.message.Tie as tie
 
 returns : tie.Need-returns
-returns c = message-lent (c .before .before .before .args .jet .now) (c .before .message-length .ensures) (c .before .before .before .pre .1)
+returns c =
+    let at-start = c .before .before .before in
+    message-lent (at-start .args .jet .now) (c .before .message-length .ensures) (at-start .pre .1)
 
 pub message-spec : {M : Type 1} → statement M
 message-spec =

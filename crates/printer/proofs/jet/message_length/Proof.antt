@@ -9,7 +9,9 @@ use Rattle.printer.proofs.jet.message_length.Tie as tie
 
 returns : tie.Need-returns
 unfolding jet-of
-returns c = c .word .ensures .value ∙ sym (two-read (c .before .before .before .before .args .jet .now) (omega arith))
+returns c =
+    let at-start = c .before .before .before .before in
+    c .word .ensures .value ∙ sym (two-read (at-start .args .jet .now) (omega arith))
 
 pub message-length-spec : {M : Type 1} → statement M
 message-length-spec =

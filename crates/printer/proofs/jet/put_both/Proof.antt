@@ -7,12 +7,16 @@ use Rattle.printer.proofs.jet.put_both.Tie as tie
 
 returns : tie.Need-returns
 returns c =
-    let entry = c .before .before .before .before .before .before .before .before .before .before .before in
-    both-left (entry .args .jet .now) (entry .pre .0) (c .before .before .before .before .before .before .before .before .before .before .slice-known .given) (entry .args .message .now) (entry .args .q .now) (entry .pre .3)
-    (c .before .before .before .before .before .before .put-message .ensures)
-    (c .before .before .before .before .before .before .put-message .kept .0 ∙ entry .pre .0)
-    (c .before .before .before .before .slice-known2 .given)
-    (c .before .before .put-parameters .ensures)
+    let at-put-parameters = c .before .before in
+    let at-slice-known2 = at-put-parameters .before .before in
+    let at-put-message = at-slice-known2 .before .before in
+    let at-slice-known = at-put-message .before .before .before .before in
+    let at-start = at-slice-known .before in
+    both-left (at-start .args .jet .now) (at-start .pre .0) (at-slice-known .slice-known .given) (at-start .args .message .now) (at-start .args .q .now) (at-start .pre .3)
+    (at-put-message .put-message .ensures)
+    (at-put-message .put-message .kept .0 ∙ at-start .pre .0)
+    (at-slice-known2 .slice-known2 .given)
+    (at-put-parameters .put-parameters .ensures)
 
 pub put-both-spec : {M : Type 1} → statement M
 put-both-spec =

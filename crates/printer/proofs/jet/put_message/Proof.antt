@@ -18,8 +18,10 @@ same-length c = c .before .jet .given .1 ∙ simp length-set
 
 returns : tie.Need-returns
 returns c =
-    let entry = c .before .before .before .before .before .before in
-    laid-left (entry .args .jet .now) (entry .pre .0) (c .before .before .before .before .before .slice-known .given) (entry .pre .1) (c .before .before .lay .ensures)
+    let at-lay = c .before .before in
+    let at-slice-known = at-lay .before .before .before in
+    let at-start = at-slice-known .before in
+    laid-left (at-start .args .jet .now) (at-start .pre .0) (at-slice-known .slice-known .given) (at-start .pre .1) (at-lay .lay .ensures)
 
 pub put-message-spec : {M : Type 1} → statement M
 put-message-spec =

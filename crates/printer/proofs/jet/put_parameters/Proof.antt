@@ -12,20 +12,26 @@ use Rattle.printer.proofs.jet.put_parameters.Statement.{statement}
 use Rattle.printer.proofs.jet.put_parameters.Tie as tie
 
 slice-aggregate-lay : tie.Need-slice-aggregate-lay
-slice-aggregate-lay c = sym (length-take-le 11 (c .before .before .before .before .args .q .now) (omega arith))
+slice-aggregate-lay c =
+    let at-start = c .before .before .before .before in
+    sym (length-take-le 11 (at-start .args .q .now) (omega arith))
 
 set-to-requires : tie.Need-set-to-requires
 unfolding good-parameters
 set-to-requires c κs =
-    let entry = c .before .before .before .before .before .before .before .before .before in
-    (search needs, rw lent-tail (simp length-drop (omega arith)), ap good-settings (lent-tail 11 (entry .args .q .now)) ∙ entry .pre .2)
+    let at-lay = c .before .before .before .before in
+    let at-start = at-lay .before .before .before .before .before in
+    (search needs, rw lent-tail (simp length-drop (omega arith)), ap good-settings (lent-tail 11 (at-start .args .q .now)) ∙ at-start .pre .2)
 
 returns : tie.Need-returns
 returns c =
-    let entry = c .before .before .before .before .before .before .before .before .before .before .before .before in
-    parameters-left (entry .args .jet .now) (entry .pre .0) (c .before .before .before .before .before .before .before .before .before .before .before .slice-known .given) (entry .args .q .now) (entry .pre .1)
-    (c .before .before .before .before .before .before .before .lay .ensures)
-    (c .before .before .set-to .ensures)
+    let at-set-to = c .before .before in
+    let at-lay = at-set-to .before .before .before .before .before in
+    let at-slice-known = at-lay .before .before .before .before in
+    let at-start = at-slice-known .before in
+    parameters-left (at-start .args .jet .now) (at-start .pre .0) (at-slice-known .slice-known .given) (at-start .args .q .now) (at-start .pre .1)
+    (at-lay .lay .ensures)
+    (at-set-to .set-to .ensures)
 
 pub put-parameters-spec : {M : Type 1} → statement M
 put-parameters-spec =

@@ -9,11 +9,16 @@ returns c = rw (not-true (c .before .before .args .present) (c .if1 .taken))
 
 returns-2 : tie.Need-returns-2
 returns-2 c =
-    rw (not-false (c .before .before .before .before .args .present) (c .before .before .if1 .left), ← c .before .has-message .ensures, not-true (c .before .has-message .result) (c .if2 .taken))
+    let at-if1 = c .before .before in
+    let at-start = at-if1 .before .before in
+    rw (not-false (at-start .args .present) (at-if1 .if1 .left), ← c .before .has-message .ensures, not-true (c .before .has-message .result) (c .if2 .taken))
 
 returns-3 : tie.Need-returns-3
 returns-3 c =
-    rw (not-false (c .before .before .before .before .before .args .present) (c .before .before .before .if1 .left), ← c .before .before .has-message .ensures, not-false (c .before .before .has-message .result) (c .before .if2 .left))
+    let at-has-message = c .before .before in
+    let at-if1 = at-has-message .before in
+    let at-start = at-if1 .before .before in
+    rw (not-false (at-start .args .present) (at-if1 .if1 .left), ← at-has-message .has-message .ensures, not-false (at-has-message .has-message .result) (c .before .if2 .left))
     (c .has-parameters .ensures)
 
 pub ready-jet-spec : {M : Type 1} → statement M

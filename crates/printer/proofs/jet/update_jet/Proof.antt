@@ -7,12 +7,15 @@ use Rattle.printer.proofs.jet.update_jet.Tie as tie
 
 returns : tie.Need-returns
 returns c =
-    let entry = c .before .before .before .before .before .before .before .before in
-    updated-left (entry .args .jet .now) (entry .pre .0) (c .before .before .before .before .before .before .before .slice-known .given) (drop (entry .args .from) (entry .args .text .now))
-    (c .before .before .before .before .message-length .ensures)
-    (entry .pre .1)
-    (c .before .before .lay-text .kept .0)
-    (c .before .before .lay-text .ensures .bytes)
+    let at-lay-text = c .before .before in
+    let at-message-length = at-lay-text .before .before in
+    let at-slice-known = at-message-length .before .before .before in
+    let at-start = at-slice-known .before in
+    updated-left (at-start .args .jet .now) (at-start .pre .0) (at-slice-known .slice-known .given) (drop (at-start .args .from) (at-start .args .text .now))
+    (at-message-length .message-length .ensures)
+    (at-start .pre .1)
+    (at-lay-text .lay-text .kept .0)
+    (at-lay-text .lay-text .ensures .bytes)
 
 pub update-jet-spec : {M : Type 1} → statement M
 update-jet-spec =

@@ -14,7 +14,10 @@ returns c =
 returns-2 : tie.Need-returns-2
 unfolding valid-jet jet-of
 returns-2 c =
-    rw (c .before .before .before .before .if1 .taken, ← c .before .before .before .valid-message .ensures, not-false (c .before .before .before .valid-message .result) (c .before .before .if2 .left))
+    let at-if2 = c .before .before in
+    let at-valid-message = at-if2 .before in
+    let at-if1 = at-valid-message .before in
+    rw (at-if1 .if1 .taken, ← at-valid-message .valid-message .ensures, not-false (at-valid-message .valid-message .result) (at-if2 .if2 .left))
     (c .valid-counter .ensures)
 
 returns-3 : tie.Need-returns-3
@@ -24,7 +27,10 @@ returns-3 c = rw (c .before .before .if1 .left, ← c .before .has-message .ensu
 returns-4 : tie.Need-returns-4
 unfolding valid-jet
 returns-4 c =
-    rw (c .before .before .before .if1 .left, ← c .before .before .has-message .ensures, c .before .if3 .left, set-lent (c .before .before .before .before .before .args .jet .now))
+    let at-has-message = c .before .before in
+    let at-if1 = at-has-message .before in
+    let at-start = at-if1 .before .before in
+    rw (at-if1 .if1 .left, ← at-has-message .has-message .ensures, c .before .if3 .left, set-lent (at-start .args .jet .now))
 
 pub valid-jet-spec : {M : Type 1} → statement M
 valid-jet-spec =

@@ -15,12 +15,17 @@ returns c = rw (← c .before .has-message .ensures, not-true (c .before .has-me
 returns-2 : tie.Need-returns-2
 unfolding valid-message
 returns-2 c =
-    rw (← c .before .before .before .has-message .ensures, not-false (c .before .before .before .has-message .result) (c .before .before .if1 .left), ← c .before .message-length .ensures, lt-leb _ 512 (c .if2 .taken))
+    let at-if1 = c .before .before in
+    let at-has-message = at-if1 .before in
+    rw (← at-has-message .has-message .ensures, not-false (at-has-message .has-message .result) (at-if1 .if1 .left), ← c .before .message-length .ensures, lt-leb _ 512 (c .if2 .taken))
 
 returns-3 : tie.Need-returns-3
 unfolding valid-message
 returns-3 c =
-    rw (← c .before .before .before .before .before .has-message .ensures, not-false (c .before .before .before .before .before .has-message .result) (c .before .before .before .before .if1 .left), le-leb (jet-of (c .before .before .before .before .before .before .before .args .jet .now) .length) 512 (omega arith))
+    let at-if1 = c .before .before .before .before in
+    let at-has-message = at-if1 .before in
+    let at-start = at-has-message .before .before in
+    rw (← at-has-message .has-message .ensures, not-false (at-has-message .has-message .result) (at-if1 .if1 .left), le-leb (jet-of (at-start .args .jet .now) .length) 512 (omega arith))
     (c .is-content .ensures ∙ ap is-content (c .before .message .ensures))
 
 pub valid-message-spec : {M : Type 1} → statement M

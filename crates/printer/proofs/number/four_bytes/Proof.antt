@@ -6,8 +6,9 @@ use Rattle.printer.proofs.number.four_bytes.Tie as tie
 
 returns : tie.Need-returns
 returns c =
-    let start = c .before .before .before .before in
-    rw (c .before .before .three-bytes .ensures .0, c .wide .ensures .0) (number-four (start .args .s .now) (start .args .at) (start .pre))
+    let at-three-bytes = c .before .before in
+    let at-start = at-three-bytes .before .before in
+    rw (at-three-bytes .three-bytes .ensures .0, c .wide .ensures .0) (number-four (at-start .args .s .now) (at-start .args .at) (at-start .pre))
 
 pub four-bytes-spec : {M : Type 1} → statement M
 four-bytes-spec =

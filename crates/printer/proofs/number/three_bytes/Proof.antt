@@ -7,8 +7,10 @@ use Rattle.printer.proofs.number.three_bytes.Tie as tie
 
 returns : tie.Need-returns
 returns c =
-    let start = c .before .before .before .before .before .before .before in (
-      rw (c .before .before .before .before .wide .ensures .0, c .before .before .wide2 .ensures .0, c .wide3 .ensures .0) (number-three (start .args .s .now) (start .args .at) (start .pre)),
+    let at-wide2 = c .before .before in
+    let at-wide = at-wide2 .before .before in
+    let at-start = at-wide .before .before .before in (
+      rw (at-wide .wide .ensures .0, at-wide2 .wide2 .ensures .0, c .wide3 .ensures .0) (number-three (at-start .args .s .now) (at-start .args .at) (at-start .pre)),
       omega arith,
     )
 

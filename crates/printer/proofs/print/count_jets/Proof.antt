@@ -40,12 +40,13 @@ part-count-jet-end c =
 
 count-jet-requires : tie.Need-count-jet-requires Inv-loop μ-loop
 count-jet-requires c κs =
-    let s = c .before .before .before .before in
-    let l = c .before .before .loop in (
-      part-full (l .state) (l .at) (laid-length (l .inv .1 .laid) ∙ (valid-size (s .args .state .now) (s .pre))) (omega (arith, l .inv .1 .place)),
+    let at-loop = c .before .before in
+    let at-start = at-loop .before .before in
+    let l = at-loop .loop in (
+      part-full (l .state) (l .at) (laid-length (l .inv .1 .laid) ∙ (valid-size (at-start .args .state .now) (at-start .pre))) (omega (arith, l .inv .1 .place)),
       ap (λ (j : Jet). valid-counter (j .counter)) (counted-jet-at (c .before .loop-test .taken) (l .inv .1)) ∙ jet-counter
-          (has-jet (printer-of (s .args .state .now) .model) (l .n + 1)) (jet-at (printer-of (s .args .state .now)) (l .n + 1))
-          (valid-at (printer-of (s .args .state .now)) (l .n + 1) (valid-printer (s .args .state .now) (s .pre)) (omega arith)),
+          (has-jet (printer-of (at-start .args .state .now) .model) (l .n + 1)) (jet-at (printer-of (at-start .args .state .now)) (l .n + 1))
+          (valid-at (printer-of (at-start .args .state .now)) (l .n + 1) (valid-printer (at-start .args .state .now) (at-start .pre)) (omega arith)),
     )
 
 add-n : tie.Need-add-n Inv-loop μ-loop
@@ -56,12 +57,15 @@ loop-less c = omega arith
 
 loop-again : tie.Need-loop-again Inv-loop μ-loop
 loop-again c =
-    let s = c .before .before .before .before .before .before .before in
-    let l = c .before .before .before .before .before .loop in (
+    let at-count-jet = c .before .before in
+    let at-loop-test = at-count-jet .before .before in
+    let at-loop = at-loop-test .before in
+    let at-start = at-loop .before .before in
+    let l = at-loop .loop in (
       omega arith,
-      counted-more (valid-size (s .args .state .now) (s .pre)) (c .before .before .before .before .loop-test .taken) (l .inv .1)
-          (c .before .before .count-jet .kept .0 ∙ part-full (l .state) (l .at) (laid-length (l .inv .1 .laid) ∙ (valid-size (s .args .state .now) (s .pre))) (omega (arith, l .inv .1 .place)))
-          (c .before .before .count-jet .ensures),
+      counted-more (valid-size (at-start .args .state .now) (at-start .pre)) (at-loop-test .loop-test .taken) (l .inv .1)
+          (at-count-jet .count-jet .kept .0 ∙ part-full (l .state) (l .at) (laid-length (l .inv .1 .laid) ∙ (valid-size (at-start .args .state .now) (at-start .pre))) (omega (arith, l .inv .1 .place)))
+          (at-count-jet .count-jet .ensures),
     )
 
 same-length : tie.Need-same-length Inv-loop μ-loop

@@ -13,24 +13,32 @@ use Rattle.printer.proofs.print.print.Tie as tie
 
 ready-requires : tie.Need-ready-requires
 ready-requires c κs =
-    let s = c .before .before .before .before in
-    valid-size (s .args .state .now) (s .pre .0)
+    let at-start = c .before .before .before .before in
+    valid-size (at-start .args .state .now) (at-start .pre .0)
 
 returns : tie.Need-returns
 unfolding obeyed print
 returns c =
-    let s = c .before .before .before .before .before .before .before .before .before .before in
+    let at-settle = c .before .before in
+    let at-if1 = at-settle .before .before in
+    let at-ready = at-if1 .before in
+    let at-start = at-ready .before .before .before .before .before in
     rw
-    (sym (c .before .before .before .before .before .ready .ensures) ∙ not-true (c .before .before .before .before .before .ready .result) (c .before .before .before .before .if1 .taken))
-    (meets-refusal (printer-of (s .args .state .now)) (s .args .state .now) (s .args .out .now) (λ z. omega arith) (one-byte _ (s .args .answer .now) (omega arith)) (c .before .before .settle .ensures))
+    (sym (at-ready .ready .ensures) ∙ not-true (at-ready .ready .result) (at-if1 .if1 .taken))
+    (meets-refusal (printer-of (at-start .args .state .now)) (at-start .args .state .now) (at-start .args .out .now) (λ z. omega arith) (one-byte _ (at-start .args .answer .now) (omega arith)) (at-settle .settle .ensures))
 
 returns-2 : tie.Need-returns-2
 unfolding obeyed print
 returns-2 c =
-    let s = c .before .before .before .before .before .before .before .before .before .before .before .before .before .before .before .before .before .before .before in
+    let at-settle2 = c .before .before in
+    let at-count-jets = at-settle2 .before .before .before .before in
+    let at-print-strips = at-count-jets .before .before .before .before in
+    let at-if1 = at-print-strips .before .before .before in
+    let at-ready = at-if1 .before in
+    let at-start = at-ready .before .before .before .before .before in
     rw
-    (sym (c .before .before .before .before .before .before .before .before .before .before .before .before .before .before .ready .ensures) ∙ not-false (c .before .before .before .before .before .before .before .before .before .before .before .before .before .before .ready .result) (c .before .before .before .before .before .before .before .before .before .before .before .before .before .if1 .left))
-    (meets-printed (print (printer-of (s .args .state .now))) (s .args .state .now) refl refl (omega arith) (c .before .before .settle2 .ensures) (c .before .before .before .before .before .before .count-jets .ensures) (c .before .before .before .before .before .before .before .before .before .before .print-strips .ensures .0) (c .before .before .before .before .before .before .before .before .before .before .print-strips .ensures .1))
+    (sym (at-ready .ready .ensures) ∙ not-false (at-ready .ready .result) (at-if1 .if1 .left))
+    (meets-printed (print (printer-of (at-start .args .state .now))) (at-start .args .state .now) refl refl (omega arith) (at-settle2 .settle2 .ensures) (at-count-jets .count-jets .ensures) (at-print-strips .print-strips .ensures .0) (at-print-strips .print-strips .ensures .1))
 
 pub print-spec : {M : Type 1} → statement M
 print-spec =

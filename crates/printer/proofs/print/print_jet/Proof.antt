@@ -44,16 +44,22 @@ module _ (es : List ℕ) (j : Jet) {v : Values} {s before after : List ℕ} {r :
 
 returns : tie.Need-returns
 returns c =
-    let s = c .before .before .before .before .before .before .before .before .before .before .before in
-    prints (s .args .entries) (jet-of (s .args .jet .now)) (c .before .before .before .before .before .before .before .values .ensures)
-    (c .before .before .before .before .before .before .before .before .message .ensures) (s .pre .1) (s .pre .2)
-    (c .before .before .before .before .before .put-strip .ensures) (c .before .written .given .1)
+    let at-put-strip = c .before .before .before .before .before in
+    let at-values = at-put-strip .before .before in
+    let at-message = at-values .before in
+    let at-start = at-message .before .before .before in
+    prints (at-start .args .entries) (jet-of (at-start .args .jet .now)) (at-values .values .ensures)
+    (at-message .message .ensures) (at-start .pre .1) (at-start .pre .2)
+    (at-put-strip .put-strip .ensures) (c .before .written .given .1)
 
 returns-2 : tie.Need-returns-2
 returns-2 c =
-    let s = c .before .before .before .before .before .before .before .before .before .before in
+    let at-put-strip = c .before .before .before .before in
+    let at-values = at-put-strip .before .before in
+    let at-message = at-values .before in
+    let at-start = at-message .before .before .before in
     absurd
-    (never-refused (s .args .entries) (jet-of (s .args .jet .now)) (c .before .before .before .before .before .before .values .ensures) (c .before .before .before .before .before .before .before .message .ensures) (s .pre .1) (s .pre .2) (c .before .before .before .before .put-strip .ensures) (c .enum-told .given .1))
+    (never-refused (at-start .args .entries) (jet-of (at-start .args .jet .now)) (at-values .values .ensures) (at-message .message .ensures) (at-start .pre .1) (at-start .pre .2) (at-put-strip .put-strip .ensures) (c .enum-told .given .1))
 
 pub print-jet-spec : {M : Type 1} → statement M
 print-jet-spec =

@@ -28,8 +28,8 @@ clock-requires c κs =
 
 loop-holds : tie.Need-loop-holds Inv-loop μ-loop
 loop-holds c =
-    let s = c .before .before .before .before in
-    (omega arith, refl, printed-none (strips (printer-of (s .args .state .now))) (s .args .out .now))
+    let at-start = c .before .before .before .before in
+    (omega arith, refl, printed-none (strips (printer-of (at-start .args .state .now))) (at-start .args .out .now))
 
 add-end : tie.Need-add-end Inv-loop μ-loop
 add-end c = omega arith
@@ -42,8 +42,8 @@ part-print-jet-start c = omega arith
 
 part-print-jet-end : tie.Need-part-print-jet-end Inv-loop μ-loop
 part-print-jet-end c =
-    let s = c .before .before .before .before .before .before in
-    omega (arith, (valid-size (s .args .state .now) (s .pre .0)))
+    let at-start = c .before .before .before .before .before .before in
+    omega (arith, (valid-size (at-start .args .state .now) (at-start .pre .0)))
 
 sub-print-jet-2 : tie.Need-sub-print-jet-2 Inv-loop μ-loop
 sub-print-jet-2 c =
@@ -60,11 +60,12 @@ part-print-jet-end-2 c = omega arith
 
 print-jet-requires : tie.Need-print-jet-requires Inv-loop μ-loop
 print-jet-requires c κs =
-    let s = c .before .before .before .before .before .before .before .before in
-    let l = c .before .before .before .loop in (
-      part-full (s .args .state .now) (l .at) (valid-size (s .args .state .now) (s .pre .0)) (omega arith),
-      rw (jet-lent (s .args .state .now) (l .n + 1) (l .inv .1 ∙ omega arith) (omega arith) (omega arith))
-          (jet-short (has-jet (printer-of (s .args .state .now) .model) (l .n + 1)) (jet-at (printer-of (s .args .state .now)) (l .n + 1)) (valid-at (printer-of (s .args .state .now)) (l .n + 1) (valid-printer (s .args .state .now) (s .pre .0)) (omega arith))),
+    let at-loop = c .before .before .before in
+    let at-start = at-loop .before .before .before .before .before in
+    let l = at-loop .loop in (
+      part-full (at-start .args .state .now) (l .at) (valid-size (at-start .args .state .now) (at-start .pre .0)) (omega arith),
+      rw (jet-lent (at-start .args .state .now) (l .n + 1) (l .inv .1 ∙ omega arith) (omega arith) (omega arith))
+          (jet-short (has-jet (printer-of (at-start .args .state .now) .model) (l .n + 1)) (jet-at (printer-of (at-start .args .state .now)) (l .n + 1)) (valid-at (printer-of (at-start .args .state .now)) (l .n + 1) (valid-printer (at-start .args .state .now) (at-start .pre .0)) (omega arith))),
       lent-room (l .behind) 1536 (l .out) (omega (arith, laid-length (l .inv .2 .laid), l .inv .2 .short)),
     )
 
@@ -72,10 +73,15 @@ mul-lengths : tie.Need-mul-lengths Inv-loop μ-loop
 mul-lengths c = omega arith
 
 array-write-lengths : tie.Need-array-write-lengths Inv-loop μ-loop
-array-write-lengths c = omega (arith, ap length (c .before .before .before .before .before .before .loop .inv .2 .counts))
+array-write-lengths c =
+    let at-loop = c .before .before .before .before .before .before in
+    omega (arith, ap length (at-loop .loop .inv .2 .counts))
 
 add-behind : tie.Need-add-behind Inv-loop μ-loop
-add-behind c = omega (arith, c .before .before .before .before .before .before .loop .inv .2 .short, c .before .before .print-jet .ensures .short)
+add-behind c =
+    let at-print-jet = c .before .before in
+    let at-loop = at-print-jet .before .before .before .before in
+    omega (arith, at-loop .loop .inv .2 .short, at-print-jet .print-jet .ensures .short)
 
 add-n : tie.Need-add-n Inv-loop μ-loop
 add-n c = omega arith
@@ -85,14 +91,19 @@ loop-less c = omega arith
 
 loop-again : tie.Need-loop-again Inv-loop μ-loop
 loop-again c =
-    let s = c .before .before .before .before .before .before .before .before .before .before .before in
-    let l = c .before .before .before .before .before .before .loop in (
+    let at-print-jet = c .before .before in
+    let at-loop-test = at-print-jet .before .before .before in
+    let at-loop = at-loop-test .before in
+    let at-entries = at-loop .before in
+    let at-clock = at-entries .before in
+    let at-start = at-clock .before .before .before in
+    let l = at-loop .loop in (
       omega arith,
       omega arith,
-      printed-more (c .before .before .print-jet .result) (four-strips (s .args .state .now)) (s .pre .1)
-          (c .before .before .before .before .before .loop-test .taken) (l .inv .2)
-          (strip-next (s .args .state .now) (c .before .before .before .before .before .before .before .entries .result) (c .before .before .before .before .before .loop-test .taken) (l .inv .1) (c .before .before .before .before .before .before .before .entries .ensures ∙ ap entries (c .before .before .before .before .before .before .before .before .clock .ensures)))
-          (c .before .before .print-jet .ensures .count) (c .before .before .print-jet .ensures .short) (c .before .before .print-jet .ensures .bytes),
+      printed-more (at-print-jet .print-jet .result) (four-strips (at-start .args .state .now)) (at-start .pre .1)
+          (at-loop-test .loop-test .taken) (l .inv .2)
+          (strip-next (at-start .args .state .now) (at-entries .entries .result) (at-loop-test .loop-test .taken) (l .inv .1) (at-entries .entries .ensures ∙ ap entries (at-clock .clock .ensures)))
+          (at-print-jet .print-jet .ensures .count) (at-print-jet .print-jet .ensures .short) (at-print-jet .print-jet .ensures .bytes),
     )
 
 same-length : tie.Need-same-length Inv-loop μ-loop
@@ -100,8 +111,9 @@ same-length c = laid-length (c .before .loop .inv .2 .laid)
 
 returns : tie.Need-returns Inv-loop μ-loop
 returns c =
+    let at-start = c .before .before .before .before .before .before in
     let l = c .before .loop in
-    printed-all (four-strips (c .before .before .before .before .before .before .args .state .now)) (c .loop-test .left) (l .inv .0) (l .inv .2)
+    printed-all (four-strips (at-start .args .state .now)) (c .loop-test .left) (l .inv .0) (l .inv .2)
 
 pub print-strips-spec : {M : Type 1} → statement M
 print-strips-spec =

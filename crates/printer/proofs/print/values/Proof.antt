@@ -11,7 +11,8 @@ use Rattle.printer.proofs.print.values.Tie as tie
 returns : tie.Need-returns
 unfolding jet-of
 returns c =
-    ap (λ (l : List ℕ). record { digits = l; entries = c .before .before .before .before .args .entries })
+    let at-start = c .before .before .before .before in
+    ap (λ (l : List ℕ). record { digits = l; entries = at-start .args .entries })
     (c .digits .ensures ∙ ap digits (c .before .value .ensures))
 
 pub values-spec : {M : Type 1} → statement M

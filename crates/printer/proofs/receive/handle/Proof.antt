@@ -49,78 +49,108 @@ enum-told c = search needs
 
 add-update-fields : tie.Need-add-update-fields
 add-update-fields c =
-    let s = c .before .before .before .before .before .before .before .before .before in
+    let at-found3 = c .before .before in
+    let at-receive = at-found3 .before .before in
+    let at-start = at-receive .before .before .before .before .before in
     omega
-    (arith, update-inside (s .args .s .now) (sym (c .before .before .before .before .receive .ensures .answer) ∙ c .before .before .found3 .given .1), s .good .1 .0)
+    (arith, update-inside (at-start .args .s .now) (sym (at-receive .receive .ensures .answer) ∙ at-found3 .found3 .given .1), at-start .good .1 .0)
 
 part-update-fields-end : tie.Need-part-update-fields-end
 part-update-fields-end c =
+    let at-found3 = c .before .before in
+    let at-receive = at-found3 .before .before in
+    let at-start = at-receive .before .before .before .before .before in
     omega
-    (arith, update-inside (c .before .before .before .before .before .before .before .before .before .args .s .now) (sym (c .before .before .before .before .receive .ensures .answer) ∙ c .before .before .found3 .given .1))
+    (arith, update-inside (at-start .args .s .now) (sym (at-receive .receive .ensures .answer) ∙ at-found3 .found3 .given .1))
 
 add-obey : tie.Need-add-obey
 add-obey c =
-    let s = c .before .before .before .before .before .before .before .before .before in
+    let at-found4 = c .before .before in
+    let at-receive = at-found4 .before .before in
+    let at-start = at-receive .before .before .before .before .before in
     omega
-    (arith, frame-inside (s .args .s .now) (sym (c .before .before .before .before .receive .ensures .answer) ∙ c .before .before .found4 .given .1), s .good .1 .0)
+    (arith, frame-inside (at-start .args .s .now) (sym (at-receive .receive .ensures .answer) ∙ at-found4 .found4 .given .1), at-start .good .1 .0)
 
 part-obey-end : tie.Need-part-obey-end
 part-obey-end c =
+    let at-found4 = c .before .before in
+    let at-receive = at-found4 .before .before in
+    let at-start = at-receive .before .before .before .before .before in
     omega
-    (arith, frame-inside (c .before .before .before .before .before .before .before .before .before .args .s .now) (sym (c .before .before .before .before .receive .ensures .answer) ∙ c .before .before .found4 .given .1))
+    (arith, frame-inside (at-start .args .s .now) (sym (at-receive .receive .ensures .answer) ∙ at-found4 .found4 .given .1))
 
 obey-requires : tie.Need-obey-requires
 obey-requires c κs =
-    let s = c .before .before .before .before .before .before .before .before .before .before .before .before in (
-      s .pre .0,
-      s .pre .1,
-      s .pre .2,
-      part-fits (s .args .s .now)
-          (sym (c .before .before .before .before .before .before .before .receive .ensures .answer) ∙ c .before .before .before .before .before .found4 .given .1),
+    let at-found4 = c .before .before .before .before .before in
+    let at-receive = at-found4 .before .before in
+    let at-start = at-receive .before .before .before .before .before in (
+      at-start .pre .0,
+      at-start .pre .1,
+      at-start .pre .2,
+      part-fits (at-start .args .s .now)
+          (sym (at-receive .receive .ensures .answer) ∙ at-found4 .found4 .given .1),
     )
 
 returns : tie.Need-returns
 returns c =
-    let s = c .before .before .before .before .before .before .before .before in
-    heard (s .args .state .now) (s .args .s .now) (c .before .before .before .receive .ensures .answer) (c .before .enum-told .given .1)
-    (meets-silent (printer-of (s .args .state .now)) (s .args .state .now) (s .args .answer .now) (s .args .strips .now) (λ z. omega arith) (c .silent .ensures))
+    let at-receive = c .before .before .before in
+    let at-start = at-receive .before .before .before .before .before in
+    heard (at-start .args .state .now) (at-start .args .s .now) (at-receive .receive .ensures .answer) (c .before .enum-told .given .1)
+    (meets-silent (printer-of (at-start .args .state .now)) (at-start .args .state .now) (at-start .args .answer .now) (at-start .args .strips .now) (λ z. omega arith) (c .silent .ensures))
 
 returns-2 : tie.Need-returns-2
 returns-2 c =
-    let s = c .before .before .before .before .before .before .before .before .before .before .before .before in
-    heard (s .args .state .now) (s .args .s .now) (c .before .before .before .before .before .before .before .receive .ensures .answer)
-    (c .before .before .before .before .before .found .given .1)
-    (meets-refusal (printer-of (s .args .state .now)) (s .args .state .now) (s .args .strips .now) (refused-number (s .args .s .now) (sym (c .before .before .before .before .before .before .before .receive .ensures .answer) ∙ c .before .before .before .before .before .found .given .1)) (one-byte _ (s .args .answer .now) (omega arith)) (c .before .before .settle .ensures))
+    let at-settle = c .before .before in
+    let at-found = at-settle .before .before .before in
+    let at-receive = at-found .before .before in
+    let at-start = at-receive .before .before .before .before .before in
+    heard (at-start .args .state .now) (at-start .args .s .now) (at-receive .receive .ensures .answer)
+    (at-found .found .given .1)
+    (meets-refusal (printer-of (at-start .args .state .now)) (at-start .args .state .now) (at-start .args .strips .now) (refused-number (at-start .args .s .now) (sym (at-receive .receive .ensures .answer) ∙ at-found .found .given .1)) (one-byte _ (at-start .args .answer .now) (omega arith)) (at-settle .settle .ensures))
 
 returns-3 : tie.Need-returns-3
 returns-3 c =
-    let s = c .before .before .before .before .before .before .before .before .before .before .before .before in
-    heard (s .args .state .now) (s .args .s .now) (c .before .before .before .before .before .before .before .receive .ensures .answer)
-    (c .before .before .before .before .before .found2 .given .1)
-    (meets-refusal (printer-of (s .args .state .now)) (s .args .state .now) (s .args .strips .now) (misfit-number (s .args .s .now) (sym (c .before .before .before .before .before .before .before .receive .ensures .answer) ∙ c .before .before .before .before .before .found2 .given .1)) (one-byte _ (s .args .answer .now) (omega arith)) (c .before .before .settle2 .ensures))
+    let at-settle2 = c .before .before in
+    let at-found2 = at-settle2 .before .before .before in
+    let at-receive = at-found2 .before .before in
+    let at-start = at-receive .before .before .before .before .before in
+    heard (at-start .args .state .now) (at-start .args .s .now) (at-receive .receive .ensures .answer)
+    (at-found2 .found2 .given .1)
+    (meets-refusal (printer-of (at-start .args .state .now)) (at-start .args .state .now) (at-start .args .strips .now) (misfit-number (at-start .args .s .now) (sym (at-receive .receive .ensures .answer) ∙ at-found2 .found2 .given .1)) (one-byte _ (at-start .args .answer .now) (omega arith)) (at-settle2 .settle2 .ensures))
 
 returns-4 : tie.Need-returns-4
 returns-4 c =
-    let s = c .before .before .before .before .before .before .before .before .before .before .before in
-    heard (s .args .state .now) (s .args .s .now) (c .before .before .before .before .before .before .receive .ensures .answer)
-    (c .before .before .before .before .enum-told2 .given .1)
-    (meets-changed (printer-of (s .args .state .now)) (enquire (printer-of (s .args .state .now))) (s .args .strips .now) (enquiry-changes (printer-of (s .args .state .now))) (omega arith) (record { number = refl; state = sym (state-back (s .args .state .now) (valid-size (s .args .state .now) (s .pre .0)) (c .before .before .before .before .before .before .before .before .before .before .slice-known .given)) }) (c .before .before .settle3 .ensures))
+    let at-settle3 = c .before .before in
+    let at-enum-told2 = at-settle3 .before .before in
+    let at-receive = at-enum-told2 .before .before in
+    let at-slice-known = at-receive .before .before .before .before in
+    let at-start = at-slice-known .before in
+    heard (at-start .args .state .now) (at-start .args .s .now) (at-receive .receive .ensures .answer)
+    (at-enum-told2 .enum-told2 .given .1)
+    (meets-changed (printer-of (at-start .args .state .now)) (enquire (printer-of (at-start .args .state .now))) (at-start .args .strips .now) (enquiry-changes (printer-of (at-start .args .state .now))) (omega arith) (record { number = refl; state = sym (state-back (at-start .args .state .now) (valid-size (at-start .args .state .now) (at-start .pre .0)) (at-slice-known .slice-known .given)) }) (at-settle3 .settle3 .ensures))
 
 returns-5 : tie.Need-returns-5
 returns-5 c =
-    let s = c .before .before .before .before .before .before .before .before .before .before .before .before .before .before .before .before .before in
-    heard (s .args .state .now) (s .args .s .now)
-    (c .before .before .before .before .before .before .before .before .before .before .before .before .receive .ensures .answer)
-    (c .before .before .before .before .before .before .before .before .before .before .found3 .given .1)
-    (meets-changed (printer-of (s .args .state .now)) _ (s .args .strips .now) (fields-change (printer-of (s .args .state .now)) (take (c .before .before .before .before .before .before .before .before .before .before .found3 .given .0 .0) (drop 1 (s .args .s .now)))) (omega arith) (rw (part-is 1 (c .before .before .before .before .before .before .before .before .before .before .found3 .given .0 .0) (s .args .s .now)) at (c .before .before .before .before .before .before .update-fields .ensures)) (c .before .before .settle4 .ensures))
+    let at-settle4 = c .before .before in
+    let at-update-fields = at-settle4 .before .before .before .before in
+    let at-found3 = at-update-fields .before .before .before .before in
+    let at-receive = at-found3 .before .before in
+    let at-start = at-receive .before .before .before .before .before in
+    heard (at-start .args .state .now) (at-start .args .s .now)
+    (at-receive .receive .ensures .answer)
+    (at-found3 .found3 .given .1)
+    (meets-changed (printer-of (at-start .args .state .now)) _ (at-start .args .strips .now) (fields-change (printer-of (at-start .args .state .now)) (take (at-found3 .found3 .given .0 .0) (drop 1 (at-start .args .s .now)))) (omega arith) (rw (part-is 1 (at-found3 .found3 .given .0 .0) (at-start .args .s .now)) at (at-update-fields .update-fields .ensures)) (at-settle4 .settle4 .ensures))
 
 returns-6 : tie.Need-returns-6
 returns-6 c =
-    let s = c .before .before .before .before .before .before .before .before .before .before .before .before .before .before .before .before .before .before .before in
-    heard (s .args .state .now) (s .args .s .now)
-    (c .before .before .before .before .before .before .before .before .before .before .before .before .before .before .receive .ensures .answer)
-    (c .before .before .before .before .before .before .before .before .before .before .before .before .found4 .given .1)
-    (rw (part-is 3 (c .before .before .before .before .before .before .before .before .before .before .before .before .found4 .given .0 .1 .0) (s .args .s .now)) at (c .before .before .before .before .before .before .obey .ensures))
+    let at-obey = c .before .before .before .before .before .before in
+    let at-found4 = at-obey .before .before .before .before .before .before in
+    let at-receive = at-found4 .before .before in
+    let at-start = at-receive .before .before .before .before .before in
+    heard (at-start .args .state .now) (at-start .args .s .now)
+    (at-receive .receive .ensures .answer)
+    (at-found4 .found4 .given .1)
+    (rw (part-is 3 (at-found4 .found4 .given .0 .1 .0) (at-start .args .s .now)) at (at-obey .obey .ensures))
 
 pub handle-spec : {M : Type 1} → statement M
 handle-spec =

@@ -65,8 +65,8 @@ exactly {n} {k} h = let e = eqb-true n k h in omega arith
 change-order-requires : tie.Need-change-order-requires
 unfolding size-of
 change-order-requires c κs =
-    let s = c .before .before .before .before .before .before in
-    (s .pre .0, leb-true 2 _ (row (s .args .identifier) 0x0A (length (s .args .d .now)) (c .before .if1 .taken) (s .pre .3)))
+    let at-start = c .before .before .before .before .before .before in
+    (at-start .pre .0, leb-true 2 _ (row (at-start .args .identifier) 0x0A (length (at-start .args .d .now)) (c .before .if1 .taken) (at-start .pre .3)))
 
 returns : tie.Need-returns
 unfolding order set-message
@@ -74,15 +74,15 @@ returns c =
     let at-settle = c .before .before in
     let at-change-order = at-settle .before .before .before .before in
     let at-if1 = at-change-order .before .before in
-    let s = at-if1 .before .before .before .before .before in
-    changed (s .args .state .now) 0x0A (s .args .d .now) (s .args .strips .now) (at-if1 .if1 .taken) (change-changes Message (printer-of (s .args .state .now)) (s .args .d .now)) (s .pre .1)
+    let at-start = at-if1 .before .before .before .before .before in
+    changed (at-start .args .state .now) 0x0A (at-start .args .d .now) (at-start .args .strips .now) (at-if1 .if1 .taken) (change-changes Message (printer-of (at-start .args .state .now)) (at-start .args .d .now)) (at-start .pre .1)
     (at-change-order .change-order .ensures) (at-settle .settle .ensures)
 
 change-order-requires-2 : tie.Need-change-order-requires-2
 unfolding size-of
 change-order-requires-2 c κs =
-    let s = c .before .before .before .before .before .before .before in
-    (s .pre .0, exactly (row (s .args .identifier) 0x0B (length (s .args .d .now)) (c .before .if2 .taken) (s .pre .3)))
+    let at-start = c .before .before .before .before .before .before .before in
+    (at-start .pre .0, exactly (row (at-start .args .identifier) 0x0B (length (at-start .args .d .now)) (c .before .if2 .taken) (at-start .pre .3)))
 
 returns-2 : tie.Need-returns-2
 unfolding order set-parameters
@@ -90,15 +90,16 @@ returns-2 c =
     let at-settle2 = c .before .before in
     let at-change-order2 = at-settle2 .before .before .before .before in
     let at-if2 = at-change-order2 .before .before in
-    let s = at-if2 .before .before .before .before .before .before in
-    changed (s .args .state .now) 0x0B (s .args .d .now) (s .args .strips .now) (at-if2 .if2 .taken) (change-changes Parameters (printer-of (s .args .state .now)) (s .args .d .now)) (s .pre .1)
+    let at-start = at-if2 .before .before .before .before .before .before in
+    changed (at-start .args .state .now) 0x0B (at-start .args .d .now) (at-start .args .strips .now) (at-if2 .if2 .taken) (change-changes Parameters (printer-of (at-start .args .state .now)) (at-start .args .d .now)) (at-start .pre .1)
     (at-change-order2 .change-order2 .ensures) (at-settle2 .settle2 .ensures)
 
 change-order-requires-3 : tie.Need-change-order-requires-3
 unfolding size-of
 change-order-requires-3 c κs =
-    let s = c .before .before .before .before .before .before .before .before in
-    (s .pre .0, leb-true 39 _ (row (s .args .identifier) 0x0C (length (s .args .d .now)) (c .before .if3 .taken) (s .pre .3)))
+    let at-if1 = c .before .before .before in
+    let at-start = at-if1 .before .before .before .before .before in
+    (at-start .pre .0, leb-true 39 _ (row (at-start .args .identifier) 0x0C (length (at-start .args .d .now)) (c .before .if3 .taken) (at-start .pre .3)))
 
 returns-3 : tie.Need-returns-3
 unfolding order set-both
@@ -106,23 +107,25 @@ returns-3 c =
     let at-settle3 = c .before .before in
     let at-change-order3 = at-settle3 .before .before .before .before in
     let at-if3 = at-change-order3 .before .before in
-    let s = at-if3 .before .before .before .before .before .before .before in
-    changed (s .args .state .now) 0x0C (s .args .d .now) (s .args .strips .now) (at-if3 .if3 .taken) (change-changes Both (printer-of (s .args .state .now)) (s .args .d .now)) (s .pre .1)
+    let at-start = at-if3 .before .before .before .before .before .before .before in
+    changed (at-start .args .state .now) 0x0C (at-start .args .d .now) (at-start .args .strips .now) (at-if3 .if3 .taken) (change-changes Both (printer-of (at-start .args .state .now)) (at-start .args .d .now)) (at-start .pre .1)
     (at-change-order3 .change-order3 .ensures) (at-settle3 .settle3 .ensures)
 
 request-order-requires : tie.Need-request-order-requires
 unfolding size-of
 request-order-requires c κs =
     let at-if4 = c .before .before in
-    let s = at-if4 .before .before .before .before .before .before .before .before in
-    (s .pre .0, exactly (row (s .args .identifier) 0x39 (length (s .args .d .now)) (at-if4 .if4 .taken) (s .pre .3)), room (s .args .answer .now) (s .pre .1))
+    let at-if1 = at-if4 .before .before .before in
+    let at-start = at-if1 .before .before .before .before .before in
+    (at-start .pre .0, exactly (row (at-start .args .identifier) 0x39 (length (at-start .args .d .now)) (at-if4 .if4 .taken) (at-start .pre .3)), room (at-start .args .answer .now) (at-start .pre .1))
 
 settle-requires-4 : tie.Need-settle-requires-4
 settle-requires-4 c κs =
     let at-answer4 = c .before .before in
     let at-request-order = at-answer4 .before in
-    let s = at-request-order .before .before .before .before .before .before .before .before .before .before .before in
-    told-fits (s .args .answer .now) (at-request-order .request-order .ensures) (omega arith) (at-answer4 .answer4 .given .1)
+    let at-if1 = at-request-order .before .before .before .before .before .before in
+    let at-start = at-if1 .before .before .before .before .before in
+    told-fits (at-start .args .answer .now) (at-request-order .request-order .ensures) (omega arith) (at-answer4 .answer4 .given .1)
 
 returns-4 : tie.Need-returns-4
 unfolding order ask-counter
@@ -131,16 +134,17 @@ returns-4 c =
     let at-request-order = at-settle4 .before .before .before .before in
     let at-if4 = at-request-order .before .before .before in
     let at-slice-known = at-if4 .before .before .before .before .before .before .before in
-    let s = at-slice-known .before in
-    asked (s .args .state .now) (s .args .identifier) 0x39 (s .args .d .now) (s .args .strips .now)
-    (at-row (printer-of (s .args .state .now)) 0x39 (s .args .d .now) (at-if4 .if4 .taken)) (request-asks request.Counter (printer-of (s .args .state .now)) (s .args .d .now)) (s .pre .0) (at-slice-known .slice-known .given) (s .pre .1)
+    let at-start = at-slice-known .before in
+    asked (at-start .args .state .now) (at-start .args .identifier) 0x39 (at-start .args .d .now) (at-start .args .strips .now)
+    (at-row (printer-of (at-start .args .state .now)) 0x39 (at-start .args .d .now) (at-if4 .if4 .taken)) (request-asks request.Counter (printer-of (at-start .args .state .now)) (at-start .args .d .now)) (at-start .pre .0) (at-slice-known .slice-known .given) (at-start .pre .1)
     (at-request-order .request-order .ensures) (at-settle4 .settle4 .ensures)
 
 change-order-requires-4 : tie.Need-change-order-requires-4
 unfolding size-of
 change-order-requires-4 c κs =
-    let s = c .before .before .before .before .before .before .before .before .before .before in
-    (s .pre .0, leb-true 4 _ (row (s .args .identifier) 0x42 (length (s .args .d .now)) (c .before .if5 .taken) (s .pre .3)))
+    let at-if1 = c .before .before .before .before .before in
+    let at-start = at-if1 .before .before .before .before .before in
+    (at-start .pre .0, leb-true 4 _ (row (at-start .args .identifier) 0x42 (length (at-start .args .d .now)) (c .before .if5 .taken) (at-start .pre .3)))
 
 returns-5 : tie.Need-returns-5
 unfolding order edit-message
@@ -148,23 +152,26 @@ returns-5 c =
     let at-settle5 = c .before .before in
     let at-change-order4 = at-settle5 .before .before .before .before in
     let at-if5 = at-change-order4 .before .before in
-    let s = at-if5 .before .before .before .before .before .before .before .before .before in
-    changed (s .args .state .now) 0x42 (s .args .d .now) (s .args .strips .now) (at-if5 .if5 .taken) (change-changes Characters (printer-of (s .args .state .now)) (s .args .d .now)) (s .pre .1)
+    let at-if1 = at-if5 .before .before .before .before in
+    let at-start = at-if1 .before .before .before .before .before in
+    changed (at-start .args .state .now) 0x42 (at-start .args .d .now) (at-start .args .strips .now) (at-if5 .if5 .taken) (change-changes Characters (printer-of (at-start .args .state .now)) (at-start .args .d .now)) (at-start .pre .1)
     (at-change-order4 .change-order4 .ensures) (at-settle5 .settle5 .ensures)
 
 request-order-requires-2 : tie.Need-request-order-requires-2
 unfolding size-of
 request-order-requires-2 c κs =
     let at-if6 = c .before .before in
-    let s = at-if6 .before .before .before .before .before .before .before .before .before .before in
-    (s .pre .0, exactly (row (s .args .identifier) 0x43 (length (s .args .d .now)) (at-if6 .if6 .taken) (s .pre .3)), room (s .args .answer .now) (s .pre .1))
+    let at-if1 = at-if6 .before .before .before .before .before in
+    let at-start = at-if1 .before .before .before .before .before in
+    (at-start .pre .0, exactly (row (at-start .args .identifier) 0x43 (length (at-start .args .d .now)) (at-if6 .if6 .taken) (at-start .pre .3)), room (at-start .args .answer .now) (at-start .pre .1))
 
 settle-requires-6 : tie.Need-settle-requires-6
 settle-requires-6 c κs =
     let at-answer7 = c .before .before in
     let at-request-order2 = at-answer7 .before in
-    let s = at-request-order2 .before .before .before .before .before .before .before .before .before .before .before .before .before in
-    told-fits (s .args .answer .now) (at-request-order2 .request-order2 .ensures) (omega arith) (at-answer7 .answer7 .given .1)
+    let at-if3 = at-request-order2 .before .before .before .before .before .before in
+    let at-start = at-if3 .before .before .before .before .before .before .before in
+    told-fits (at-start .args .answer .now) (at-request-order2 .request-order2 .ensures) (omega arith) (at-answer7 .answer7 .given .1)
 
 returns-6 : tie.Need-returns-6
 unfolding order ask-message
@@ -172,18 +179,20 @@ returns-6 c =
     let at-settle6 = c .before .before in
     let at-request-order2 = at-settle6 .before .before .before .before in
     let at-if6 = at-request-order2 .before .before .before in
-    let at-slice-known = at-if6 .before .before .before .before .before .before .before .before .before in
-    let s = at-slice-known .before in
-    asked (s .args .state .now) (s .args .identifier) 0x43 (s .args .d .now) (s .args .strips .now)
-    (at-row (printer-of (s .args .state .now)) 0x43 (s .args .d .now) (at-if6 .if6 .taken)) (request-asks request.Message (printer-of (s .args .state .now)) (s .args .d .now)) (s .pre .0) (at-slice-known .slice-known .given) (s .pre .1)
+    let at-if1 = at-if6 .before .before .before .before .before in
+    let at-slice-known = at-if1 .before .before .before .before in
+    let at-start = at-slice-known .before in
+    asked (at-start .args .state .now) (at-start .args .identifier) 0x43 (at-start .args .d .now) (at-start .args .strips .now)
+    (at-row (printer-of (at-start .args .state .now)) 0x43 (at-start .args .d .now) (at-if6 .if6 .taken)) (request-asks request.Message (printer-of (at-start .args .state .now)) (at-start .args .d .now)) (at-start .pre .0) (at-slice-known .slice-known .given) (at-start .pre .1)
     (at-request-order2 .request-order2 .ensures) (at-settle6 .settle6 .ensures)
 
 settle-requires-7 : tie.Need-settle-requires-7
 settle-requires-7 c κs =
     let at-answer9 = c .before .before in
     let at-ask-table = at-answer9 .before in
-    let s = at-ask-table .before .before .before .before .before .before .before .before .before .before .before .before .before in
-    told-fits (s .args .answer .now) (at-ask-table .ask-table .ensures) (omega arith) (at-answer9 .answer9 .given .1)
+    let at-if3 = at-ask-table .before .before .before .before .before .before in
+    let at-start = at-if3 .before .before .before .before .before .before .before in
+    told-fits (at-start .args .answer .now) (at-ask-table .ask-table .ensures) (omega arith) (at-answer9 .answer9 .given .1)
 
 returns-7 : tie.Need-returns-7
 unfolding order ask-table
@@ -191,10 +200,11 @@ returns-7 c =
     let at-settle7 = c .before .before in
     let at-ask-table = at-settle7 .before .before .before .before in
     let at-if7 = at-ask-table .before .before in
-    let at-slice-known = at-if7 .before .before .before .before .before .before .before .before .before .before in
-    let s = at-slice-known .before in
-    asked (s .args .state .now) (s .args .identifier) 0x52 (s .args .d .now) (s .args .strips .now)
-    (at-row (printer-of (s .args .state .now)) 0x52 (s .args .d .now) (at-if7 .if7 .taken)) (table-asks _) (s .pre .0) (at-slice-known .slice-known .given) (s .pre .1)
+    let at-if1 = at-if7 .before .before .before .before .before .before in
+    let at-slice-known = at-if1 .before .before .before .before in
+    let at-start = at-slice-known .before in
+    asked (at-start .args .state .now) (at-start .args .identifier) 0x52 (at-start .args .d .now) (at-start .args .strips .now)
+    (at-row (printer-of (at-start .args .state .now)) 0x52 (at-start .args .d .now) (at-if7 .if7 .taken)) (table-asks _) (at-start .pre .0) (at-slice-known .slice-known .given) (at-start .pre .1)
     (at-ask-table .ask-table .ensures) (at-settle7 .settle7 .ensures)
 
 returns-8 : tie.Need-returns-8
@@ -202,16 +212,19 @@ unfolding order
 returns-8 c =
     let at-print = c .before .before .before .before .before .before in
     let at-if8 = at-print .before .before .before .before in
-    let s = at-if8 .before .before .before .before .before .before .before .before .before .before .before .before in
-    meets-same (ap (λ (o : Order). obeyed (printer-of (s .args .state .now)) o (s .args .consumed)) (at-row (printer-of (s .args .state .now)) 0x94 (s .args .d .now) (at-if8 .if8 .taken)))
+    let at-if2 = at-if8 .before .before .before .before .before .before in
+    let at-start = at-if2 .before .before .before .before .before .before in
+    meets-same (ap (λ (o : Order). obeyed (printer-of (at-start .args .state .now)) o (at-start .args .consumed)) (at-row (printer-of (at-start .args .state .now)) 0x94 (at-start .args .d .now) (at-if8 .if8 .taken)))
     (at-print .print .ensures)
 
 settle-requires-8 : tie.Need-settle-requires-8
 settle-requires-8 c κs =
     let at-answer12 = c .before .before in
     let at-ask-clock = at-answer12 .before in
-    let s = at-ask-clock .before .before .before .before .before .before .before .before .before .before .before .before .before .before .before in
-    told-fits (s .args .answer .now) (at-ask-clock .ask-clock .ensures) (omega arith) (at-answer12 .answer12 .given .1)
+    let at-if5 = at-ask-clock .before .before .before .before .before .before in
+    let at-if1 = at-if5 .before .before .before .before in
+    let at-start = at-if1 .before .before .before .before .before in
+    told-fits (at-start .args .answer .now) (at-ask-clock .ask-clock .ensures) (omega arith) (at-answer12 .answer12 .given .1)
 
 returns-9 : tie.Need-returns-9
 unfolding order ask-clock
@@ -227,9 +240,9 @@ returns-9 c =
     let at-if2 = at-if3 .before in
     let at-if1 = at-if2 .before in
     let at-slice-known = at-if1 .before .before .before .before in
-    let s = at-slice-known .before in
-    asked (s .args .state .now) (s .args .identifier) 0xD6 (s .args .d .now) (s .args .strips .now)
-    (last-row (printer-of (s .args .state .now)) (s .args .identifier) (s .args .d .now) (at-if1 .if1 .left) (at-if2 .if2 .left) (at-if3 .if3 .left) (at-if4 .if4 .left) (at-if5 .if5 .left) (at-if6 .if6 .left) (at-if7 .if7 .left) (at-if8 .if8 .left)) (clock-asks _) (s .pre .0) (at-slice-known .slice-known .given) (s .pre .1)
+    let at-start = at-slice-known .before in
+    asked (at-start .args .state .now) (at-start .args .identifier) 0xD6 (at-start .args .d .now) (at-start .args .strips .now)
+    (last-row (printer-of (at-start .args .state .now)) (at-start .args .identifier) (at-start .args .d .now) (at-if1 .if1 .left) (at-if2 .if2 .left) (at-if3 .if3 .left) (at-if4 .if4 .left) (at-if5 .if5 .left) (at-if6 .if6 .left) (at-if7 .if7 .left) (at-if8 .if8 .left)) (clock-asks _) (at-start .pre .0) (at-slice-known .slice-known .given) (at-start .pre .1)
     (at-ask-clock .ask-clock .ensures) (at-settle8 .settle8 .ensures)
 
 pub obey-spec : {M : Type 1} → statement M

@@ -13,34 +13,45 @@ use Rattle.printer.proofs.receive.receive.Tie as tie
 returns : tie.Need-returns
 unfolding outcome
 returns c =
-    let s = c .before .before .before .before .before .before .before .before in
-    record { meets = rw (← c .before .before .valid-state .ensures, not-true (c .before .before .valid-state .result) (c .before .if1 .taken)) (meets-silent (printer-of (s .args .state .now)) (s .args .state .now) (s .args .answer .now) (s .args .strips .now) (λ z. omega arith) (c .silent .ensures)) }
+    let at-valid-state = c .before .before in
+    let at-start = at-valid-state .before .before .before .before .before .before in
+    record { meets = rw (← at-valid-state .valid-state .ensures, not-true (at-valid-state .valid-state .result) (c .before .if1 .taken)) (meets-silent (printer-of (at-start .args .state .now)) (at-start .args .state .now) (at-start .args .answer .now) (at-start .args .strips .now) (λ z. omega arith) (c .silent .ensures)) }
 
 returns-2 : tie.Need-returns-2
 unfolding outcome
 returns-2 c =
-    let s = c .before .before .before .before .before .before .before .before .before in
-    record { meets = rw (sym (c .before .before .before .valid-state .ensures) ∙ not-false (c .before .before .before .valid-state .result) (c .before .before .if1 .left), lt-leb 554 (length (s .args .answer .now)) (c .before .if2 .taken)) (meets-silent (printer-of (s .args .state .now)) (s .args .state .now) (s .args .answer .now) (s .args .strips .now) (λ z. omega arith) (c .silent2 .ensures)) }
+    let at-if1 = c .before .before in
+    let at-valid-state = at-if1 .before in
+    let at-start = at-valid-state .before .before .before .before .before .before in
+    record { meets = rw (sym (at-valid-state .valid-state .ensures) ∙ not-false (at-valid-state .valid-state .result) (at-if1 .if1 .left), lt-leb 554 (length (at-start .args .answer .now)) (c .before .if2 .taken)) (meets-silent (printer-of (at-start .args .state .now)) (at-start .args .state .now) (at-start .args .answer .now) (at-start .args .strips .now) (λ z. omega arith) (c .silent2 .ensures)) }
 
 returns-3 : tie.Need-returns-3
 unfolding outcome
 returns-3 c =
-    let s = c .before .before .before .before .before .before .before .before .before .before in
-    record { meets = rw (sym (c .before .before .before .before .valid-state .ensures) ∙ not-false (c .before .before .before .before .valid-state .result) (c .before .before .before .if1 .left), le-leb 554 (length (s .args .answer .now)) (c .before .before .if2 .left), lt-leb 6144 (length (s .args .strips .now)) (c .before .if3 .taken)) (meets-silent (printer-of (s .args .state .now)) (s .args .state .now) (s .args .answer .now) (s .args .strips .now) (λ z. omega arith) (c .silent3 .ensures)) }
+    let at-if2 = c .before .before in
+    let at-if1 = at-if2 .before in
+    let at-valid-state = at-if1 .before in
+    let at-start = at-valid-state .before .before .before .before .before .before in
+    record { meets = rw (sym (at-valid-state .valid-state .ensures) ∙ not-false (at-valid-state .valid-state .result) (at-if1 .if1 .left), le-leb 554 (length (at-start .args .answer .now)) (at-if2 .if2 .left), lt-leb 6144 (length (at-start .args .strips .now)) (c .before .if3 .taken)) (meets-silent (printer-of (at-start .args .state .now)) (at-start .args .state .now) (at-start .args .answer .now) (at-start .args .strips .now) (λ z. omega arith) (c .silent3 .ensures)) }
 
 handle-requires : tie.Need-handle-requires
-handle-requires c κs = (
-  sym (c .before .before .before .before .before .before .valid-state .ensures) ∙ not-false
-      (c .before .before .before .before .before .before .valid-state .result) (c .before .before .before .before .before .if1 .left),
-  c .before .before .before .before .if2 .left,
-  c .before .before .before .if3 .left,
-)
+handle-requires c κs =
+    let at-if3 = c .before .before .before in
+    let at-if2 = at-if3 .before in
+    let at-if1 = at-if2 .before in
+    let at-valid-state = at-if1 .before in
+    (sym (at-valid-state .valid-state .ensures) ∙ not-false (at-valid-state .valid-state .result) (at-if1 .if1 .left), at-if2 .if2 .left, at-if3 .if3 .left)
 
 returns-4 : tie.Need-returns-4
 unfolding outcome
 returns-4 c =
-    let s = c .before .before .before .before .before .before .before .before .before .before .before .before .before .before .before .before .before .before .before in
-    record { meets = rw (sym (c .before .before .before .before .before .before .before .before .before .before .before .before .before .valid-state .ensures) ∙ not-false (c .before .before .before .before .before .before .before .before .before .before .before .before .before .valid-state .result) (c .before .before .before .before .before .before .before .before .before .before .before .before .if1 .left), le-leb 554 (length (s .args .answer .now)) (c .before .before .before .before .before .before .before .before .before .before .before .if2 .left), le-leb 6144 (length (s .args .strips .now)) (c .before .before .before .before .before .before .before .before .before .before .if3 .left)) (c .before .before .before .before .before .before .handle .ensures) }
+    let at-handle = c .before .before .before .before .before .before in
+    let at-if3 = at-handle .before .before .before .before in
+    let at-if2 = at-if3 .before in
+    let at-if1 = at-if2 .before in
+    let at-valid-state = at-if1 .before in
+    let at-start = at-valid-state .before .before .before .before .before .before in
+    record { meets = rw (sym (at-valid-state .valid-state .ensures) ∙ not-false (at-valid-state .valid-state .result) (at-if1 .if1 .left), le-leb 554 (length (at-start .args .answer .now)) (at-if2 .if2 .left), le-leb 6144 (length (at-start .args .strips .now)) (at-if3 .if3 .left)) (at-handle .handle .ensures) }
 
 pub receive-spec : {M : Type 1} → statement M
 receive-spec =

@@ -15,12 +15,13 @@ clock-requires c κs = valid-size _ (c .before .before .pre .0)
 
 returns : tie.Need-returns
 returns c =
-    let at-clock-text = c .before .before .before .before .before in
+    let at-answer = c .before .before in
+    let at-clock-text = at-answer .before .before .before in
     let at-clock = at-clock-text .before in
-    let s = at-clock .before .before .before in
+    let at-start = at-clock .before .before .before in
     let text = at-clock-text .clock-text .ensures ∙ ap clock-text (at-clock .clock .ensures) in
     let size : length (at-clock-text .clock-text .result) ≡ 22 = search needs in
-    answer-told (c .before .before .answer .ensures) end (ap (frame 0x9C) (sym text)) (omega arith) (omega arith) (s .pre .1)
+    answer-told (at-answer .answer .ensures) end (ap (frame 0x9C) (sym text)) (omega arith) (omega arith) (at-start .pre .1)
 
 pub ask-clock-spec : {M : Type 1} → statement M
 ask-clock-spec =

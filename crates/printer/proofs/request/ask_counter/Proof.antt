@@ -15,9 +15,14 @@ returns c = untold (c .refused .ensures) (here (denied (c .before .before .has-p
 returns-2 : tie.Need-returns-2
 unfolding jet-of
 returns-2 c =
-    let size : length (c .before .before .before .before .before .counter-text .result) ≡ 12 = search needs in
-    answer-told (c .before .before .answer .ensures) (holds (granted (c .before .before .before .before .before .before .before .before .has-parameters .ensures) (c .before .before .before .before .before .before .before .if1 .left)) end)
-    (ap (frame 0x39) (sym (c .before .before .before .before .before .counter-text .ensures))) (omega arith) (omega arith) (c .before .before .before .before .before .before .before .before .before .before .before .pre .1)
+    let at-answer = c .before .before in
+    let at-counter-text = at-answer .before .before .before in
+    let at-if1 = at-counter-text .before .before in
+    let at-has-parameters = at-if1 .before in
+    let at-start = at-has-parameters .before .before .before in
+    let size : length (at-counter-text .counter-text .result) ≡ 12 = search needs in
+    answer-told (at-answer .answer .ensures) (holds (granted (at-has-parameters .has-parameters .ensures) (at-if1 .if1 .left)) end)
+    (ap (frame 0x39) (sym (at-counter-text .counter-text .ensures))) (omega arith) (omega arith) (at-start .pre .1)
 
 pub ask-counter-spec : {M : Type 1} → statement M
 ask-counter-spec =

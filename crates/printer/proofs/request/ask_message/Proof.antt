@@ -54,19 +54,32 @@ returns : tie.Need-returns
 returns c = untold (c .refused .ensures) (here (rw (denied (c .before .before .has-message .ensures) (c .before .if1 .taken))))
 
 returns-2 : tie.Need-returns-2
-returns-2 c = untold (c .refused2 .ensures) (here (rw (granted (c .before .before .before .before .has-message .ensures) (c .before .before .before .if1 .left)) (denied (c .before .before .has-parameters .ensures) (c .before .if2 .taken))))
+returns-2 c =
+    let at-has-parameters = c .before .before in
+    let at-if1 = at-has-parameters .before in
+    let at-has-message = at-if1 .before in
+    untold (c .refused2 .ensures) (here (rw (granted (at-has-message .has-message .ensures) (at-if1 .if1 .left)) (denied (at-has-parameters .has-parameters .ensures) (c .before .if2 .taken))))
 
 returns-3 : tie.Need-returns-3
 returns-3 c =
-    let s = c .before .before .before .before .before .before .before .before .before .before .before .before .before .before .before .before .before .before .before .before in
-    let q = c .before .before .before .before .before .before .before .before .before .before .before .parameters .ensures in
-    let text = c .before .before .before .before .before .before .before .before .before .before .before .before .before .message .ensures in
-    let long = ap length q ∙ parameters-long _ (s .pre .0) in
-    told-frame 0x43 (c .before .before .before .before .before .before .before .before .before .before .before .parameters .result .now ++ c .before .before .before .before .before .before .before .before .before .before .before .before .before .message .result .now)
-    (holds (rw (granted (c .before .before .before .before .before .before .before .before .before .before .before .before .before .before .before .before .before .has-message .ensures) (c .before .before .before .before .before .before .before .before .before .before .before .before .before .before .before .before .if1 .left)) (granted (c .before .before .before .before .before .before .before .before .before .before .before .before .before .before .before .has-parameters .ensures) (c .before .before .before .before .before .before .before .before .before .before .before .before .before .before .if2 .left))) end)
+    let at-wrap = c .before .before in
+    let at-lay2 = at-wrap .before .before .before .before in
+    let at-lay = at-lay2 .before .before .before .before in
+    let at-parameters = at-lay .before in
+    let at-message = at-parameters .before .before in
+    let at-if2 = at-message .before in
+    let at-has-parameters = at-if2 .before in
+    let at-if1 = at-has-parameters .before in
+    let at-has-message = at-if1 .before in
+    let at-start = at-has-message .before .before .before in
+    let q = at-parameters .parameters .ensures in
+    let text = at-message .message .ensures in
+    let long = ap length q ∙ parameters-long _ (at-start .pre .0) in
+    told-frame 0x43 (at-parameters .parameters .result .now ++ at-message .message .result .now)
+    (holds (rw (granted (at-has-message .has-message .ensures) (at-if1 .if1 .left)) (granted (at-has-parameters .has-parameters .ensures) (at-if2 .if2 .left))) end)
     (ap₂ (λ (x y : List ℕ). frame 0x43 (x ++ y)) (sym q) (sym text))
     (simp length-append (omega (arith, long)))
-    (around (c .before .before .before .before .before .before .before .before .before .before .before .parameters .result .now) (c .before .before .before .before .before .before .before .before .before .before .before .before .before .message .result .now) (s .args .out .now) long (rw text (message-short _ (s .pre .1))) (s .pre .2) (c .before .before .before .before .before .before .before .before .before .before .lay .ensures) (c .before .before .before .before .before .before .lay2 .ensures) (c .before .before .wrap .ensures))
+    (around (at-parameters .parameters .result .now) (at-message .message .result .now) (at-start .args .out .now) long (rw text (message-short _ (at-start .pre .1))) (at-start .pre .2) (at-lay .lay .ensures) (at-lay2 .lay2 .ensures) (at-wrap .wrap .ensures))
 
 pub ask-message-spec : {M : Type 1} → statement M
 ask-message-spec =

@@ -10,8 +10,9 @@ use Rattle.printer.proofs.request.ask_table.Tie as tie
 returns : tie.Need-returns
 unfolding table-text
 returns c =
-    let s = c .before .before .before .before .before .before in
-    answer-told (c .before .before .answer .ensures) end refl refl (omega arith) (s .pre)
+    let at-answer = c .before .before in
+    let at-start = at-answer .before .before .before .before in
+    answer-told (at-answer .answer .ensures) end refl refl (omega arith) (at-start .pre)
 
 pub ask-table-spec : {M : Type 1} → statement M
 ask-table-spec =

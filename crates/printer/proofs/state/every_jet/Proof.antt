@@ -22,24 +22,37 @@ loop-holds : tie.Need-loop-holds Inv-loop μ-loop
 loop-holds c = walk-starts _ _
 
 asked-requires : tie.Need-asked-requires Inv-loop μ-loop
-asked-requires c κs = part-full (c .before .before .before .before .before .before .before .args .state .now) (c .before .before .before .before .loop .at) (c .before .before .before .before .before .before .before .pre) (omega arith)
+asked-requires c κs =
+    let at-loop = c .before .before .before .before in
+    let at-start = at-loop .before .before .before in
+    part-full (at-start .args .state .now) (at-loop .loop .at) (at-start .pre) (omega arith)
 
 -- The test of the n-th jet gave what the rule's gives.
 tested : (c : tie.After-asked Inv-loop μ-loop)
-    → let m = c .before .before .before .before .before .before .before .before .args .state .now in
-    let w = c .before .before .before .before .before .loop in
-    asked (c .before .before .before .before .before .before .before .before .args .question) (has-jet (printer-of m .model) (w .n)) (jet-of (midOf (w .at) (w .at + jet-size - w .at) m)) ≡ c .asked .result
+    → let at-loop = c .before .before .before .before .before in
+    let at-start = at-loop .before .before .before in
+    let m = at-start .args .state .now in
+    let w = at-loop .loop in
+    asked (at-start .args .question) (has-jet (printer-of m .model) (w .n)) (jet-of (midOf (w .at) (w .at + jet-size - w .at) m)) ≡ c .asked .result
 unfolding printer-of
 tested c =
-    let m = c .before .before .before .before .before .before .before .before .args .state .now in
-    let w = c .before .before .before .before .before .loop in
-    jet-tested (asked (c .before .before .before .before .before .before .before .before .args .question)) (printer-of m .model) m (w .n) (w .at) (c .before .before .before .jet-number .ensures) (c .before .before .has-jet .ensures) (c .asked .ensures)
+    let at-has-jet = c .before .before in
+    let at-jet-number = at-has-jet .before in
+    let at-loop = at-jet-number .before .before in
+    let at-start = at-loop .before .before .before in
+    let m = at-start .args .state .now in
+    let w = at-loop .loop in
+    jet-tested (asked (at-start .args .question)) (printer-of m .model) m (w .n) (w .at) (at-jet-number .jet-number .ensures) (at-has-jet .has-jet .ensures) (c .asked .ensures)
 
 returns : tie.Need-returns Inv-loop μ-loop
-returns c = sym (walk-fails _ _ (c .before .before .before .before .before .before .loop .inv) (omega arith) (tested (c .before) ∙ not-true _ (c .if1 .taken)))
+returns c =
+    let at-loop = c .before .before .before .before .before .before in
+    sym (walk-fails _ _ (at-loop .loop .inv) (omega arith) (tested (c .before) ∙ not-true _ (c .if1 .taken)))
 
 loop-again : tie.Need-loop-again Inv-loop μ-loop
-loop-again c = walk-goes _ _ (c .before .before .before .before .before .before .loop .inv) (omega arith) (tested (c .before) ∙ not-false _ (c .if1 .left))
+loop-again c =
+    let at-loop = c .before .before .before .before .before .before in
+    walk-goes _ _ (at-loop .loop .inv) (omega arith) (tested (c .before) ∙ not-false _ (c .if1 .left))
 
 returns-2 : tie.Need-returns-2 Inv-loop μ-loop
 returns-2 c = sym (walk-ends _ _ (c .before .loop .inv) (omega arith))

@@ -11,7 +11,11 @@ same-length : tie.Need-same-length
 same-length c = omega (arith, simp length-set at (c .before .state .given))
 
 returns : tie.Need-returns
-returns c = c .before .before .put-date .ensures ∙ clock-put (c .before .before .before .before .before .args .state .now) (c .before .before .before .before .before .args .clock) (c .before .before .before .before .before .pre) (c .before .before .before .before .slice-known .given)
+returns c =
+    let at-put-date = c .before .before in
+    let at-slice-known = at-put-date .before .before in
+    let at-start = at-slice-known .before in
+    at-put-date .put-date .ensures ∙ clock-put (at-start .args .state .now) (at-start .args .clock) (at-start .pre) (at-slice-known .slice-known .given)
 
 pub put-clock-spec : {M : Type 1} → statement M
 put-clock-spec =

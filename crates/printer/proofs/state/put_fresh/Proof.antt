@@ -32,10 +32,12 @@ same-length c = omega (arith, simp length-set at (c .before .state .given))
 
 returns : tie.Need-returns Inv-loop μ-loop
 returns c =
-    let start = c .before .before .before .before .before .before .before in
-    let w = c .before .before .before .before .before .loop in
-    let zeros = w .inv .2 ∙ zeros-end (start .args .state .now) (w .i) 2243 (start .pre) (omega arith) in
-    c .before .before .put-clock .ensures ∙ ap bytes-of (zeros-fresh (start .args .model) (start .args .clock) zeros)
+    let at-put-clock = c .before .before in
+    let at-loop = at-put-clock .before .before .before in
+    let at-start = at-loop .before .before in
+    let w = at-loop .loop in
+    let zeros = w .inv .2 ∙ zeros-end (at-start .args .state .now) (w .i) 2243 (at-start .pre) (omega arith) in
+    at-put-clock .put-clock .ensures ∙ ap bytes-of (zeros-fresh (at-start .args .model) (at-start .args .clock) zeros)
 
 pub put-fresh-spec : {M : Type 1} → statement M
 put-fresh-spec =

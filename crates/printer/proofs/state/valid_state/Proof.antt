@@ -29,19 +29,33 @@ returns c = sym (failed (valid (printer-of (c .before .before .args .state .now)
 
 returns-2 : tie.Need-returns-2
 unfolding printer-of
-returns-2 c = sym (tests-left (c .before .before .before .before .before .args .state .now) (c .before .before .before .if1 .left) ∙ failed _ (sym (c .before .within .ensures) ∙ not-true _ (c .if2 .taken)))
+returns-2 c =
+    let at-if1 = c .before .before .before in
+    let at-start = at-if1 .before .before in
+    sym (tests-left (at-start .args .state .now) (at-if1 .if1 .left) ∙ failed _ (sym (c .before .within .ensures) ∙ not-true _ (c .if2 .taken)))
 
 returns-3 : tie.Need-returns-3
 unfolding printer-of
 returns-3 c =
-    sym (tests-left (c .before .before .before .before .before .before .before .before .args .state .now) (c .before .before .before .before .before .before .if1 .left) ∙ passed _ (sym (c .before .before .before .before .within .ensures) ∙ not-false _ (c .before .before .before .if2 .left))
-    ∙ failed _ (ap is-real (sym (c .before .before .clock .ensures)) ∙ sym (c .before .is-real .ensures) ∙ not-true _ (c .if3 .taken)))
+    let at-clock = c .before .before in
+    let at-if2 = at-clock .before in
+    let at-within = at-if2 .before in
+    let at-if1 = at-within .before .before in
+    let at-start = at-if1 .before .before in
+    sym (tests-left (at-start .args .state .now) (at-if1 .if1 .left) ∙ passed _ (sym (at-within .within .ensures) ∙ not-false _ (at-if2 .if2 .left))
+    ∙ failed _ (ap is-real (sym (at-clock .clock .ensures)) ∙ sym (c .before .is-real .ensures) ∙ not-true _ (c .if3 .taken)))
 
 returns-4 : tie.Need-returns-4
 unfolding printer-of
 returns-4 c =
-    sym (tests-left (c .before .before .before .before .before .before .before .before .before .args .state .now) (c .before .before .before .before .before .before .before .if1 .left) ∙ passed _ (sym (c .before .before .before .before .before .within .ensures) ∙ not-false _ (c .before .before .before .before .if2 .left))
-    ∙ passed _ (ap is-real (sym (c .before .before .before .clock .ensures)) ∙ sym (c .before .before .is-real .ensures) ∙ not-false _ (c .before .if3 .left)) ∙ sym (c .every-jet .ensures))
+    let at-is-real = c .before .before in
+    let at-clock = at-is-real .before in
+    let at-if2 = at-clock .before in
+    let at-within = at-if2 .before in
+    let at-if1 = at-within .before .before in
+    let at-start = at-if1 .before .before in
+    sym (tests-left (at-start .args .state .now) (at-if1 .if1 .left) ∙ passed _ (sym (at-within .within .ensures) ∙ not-false _ (at-if2 .if2 .left))
+    ∙ passed _ (ap is-real (sym (at-clock .clock .ensures)) ∙ sym (at-is-real .is-real .ensures) ∙ not-false _ (c .before .if3 .left)) ∙ sym (c .every-jet .ensures))
 
 pub valid-state-spec : {M : Type 1} → statement M
 valid-state-spec =
