@@ -3,33 +3,38 @@
 #include "api.h"     // struct box; api_fresh, api_receive, ..
 
 #define PAINT 0x5A
-#define DEEP 131072
+#define DEEP 32768
 static __attribute__((noinline)) void paint(void) { volatile u8 a[DEEP]; for (size i = 0; i < DEEP; i++) a[i] = PAINT; }
 static __attribute__((noinline)) size depth(void) { volatile u8 a[DEEP]; size i = 0; while (i < DEEP && a[i] == PAINT) i++; return DEEP - i; }
 
 static struct box box, saved;
-static u8 in[1024], answer[554], strips[6144];    // what document 01 asks the caller for
+static u8 store[8192], in[1024], answer[554], strips[6144];    // what documents 01 and 02 ask the caller for
+static u8 lent[sizeof store];                                  // the store that each call begins with
 static size n_in;
+static u8 asked;                                               // the number that the approval screen asks for
 static size floor_stack;
 
-static void measure(const char *name, int what);
-// what a call said: its number, and of a receive also consumed, the answer's length and the four strips' lengths
+static u32 sum(const u8 *s, size n) { u32 c = 0; for (size i = 0; i < n; i++) c = 31 * c + s[i]; return c; }
+// what a call said: its number; of a receive also consumed, the lengths of the answer and the four strips, and a sum over the store; of what
+// is shown also its length and a sum over it
 static void report(const char *name, int what, size stack)
 {
     put("call "); put(name); put(" stack "); num(stack > floor_stack ? stack - floor_stack : 0); put(" said "); num(api_number());
-    if (what == 0) for (int i = 0; i < 6; i++) { put(","); num(api_count(i)); }
+    if (what == 0) { for (int i = 0; i < 6; i++) { put(","); num(api_count(i)); } put(","); num(sum(store, sizeof store)); }
+    if (what == 6) { put(","); num(shown_n); put(","); num(sum(shown, shown_n)); }
     put("\n");
 }
 
 static __attribute__((noinline)) void perform(int what)
 {
     switch (what) {
-    case 0: api_receive(&box, in, n_in, answer, sizeof answer, strips, sizeof strips); break;
+    case 0: api_receive(&box, store, sizeof store, in, n_in, answer, sizeof answer, strips, sizeof strips); break;
     case 1: api_tick(&box); break;
     case 2: api_set_clock(&box); break;
     case 3: api_fresh(&box, 4); break;
     case 4: api_test(in, n_in); break;
     case 5: api_build(strips, sizeof strips, 0x0A, in, n_in); break;
+    case 6: api_shown(store, sizeof store, in, n_in, asked); break;
     default: break;
     }
 }
@@ -50,8 +55,10 @@ static void frame(u8 id, const u8 *d, size n)
 }
 static u8 d[600];
 static const u8 PARAM[37] = {1,2,3,4,5,6,7,8,9,10,11, 0x89, '0','0','0','0','0','0','0','9','8', '9','0','0','0','0','0','1','0','0', '0','2', 0,0,2, 0,0};
-// 512 bytes of plain characters
-static size plain(u8 *o) { size n = 0; o[n++] = 0x0A; o[n++] = 1; o[n++] = 0x54; while (n < 511) { o[n] = (u8)('A' + n % 26); n++; } o[n++] = 0x0D; return n; }
+// plain characters, of a given number of bytes, of 512 and of 61
+static size letters(u8 *o, size end) { size n = 0; o[n++] = 0x0A; o[n++] = 1; o[n++] = 0x54; while (n < end - 1) { o[n] = (u8)('A' + n % 26); n++; } o[n++] = 0x0D; return n; }
+static size plain(u8 *o) { return letters(o, 512); }
+static size small(u8 *o) { return letters(o, 61); }
 // 512 bytes: counters as many as fit (the longest strip, 9 for 3)
 static size counters(u8 *o) { size n = 0; o[n++] = 0x0A; o[n++] = 1; o[n++] = 0x54; while (n + 3 <= 511) { o[n++] = 0x1C; o[n++] = 1; o[n++] = 0x1C; } while (n < 511) o[n++] = 'x'; o[n++] = 0x0D; return n; }
 // 512 bytes: one date item of codes
@@ -75,23 +82,41 @@ static size mixed(u8 *o)
     o[n++] = 0x0D; return n;
 }
 static void accepted(const char *what) { if (api_number()) { put("refused "); put(what); put(" with number "); num(api_number()); put("\n"); } }
+static void take(const char *what) { perform(0); accepted(what); }
 static void start(u8 model) { api_fresh(&box, model); accepted("a fresh printer"); saved = box; }
 static void fill(size (*make)(u8 *))    // four full jets
 {
     start(4);
     for (u8 j = 1; j <= 4; j++) {
         d[0] = j; memcpy(d + 1, PARAM, 37); size n = make(d + 38); frame(0x0C, d, 38 + n);
-        api_receive(&box, in, n_in, answer, sizeof answer, strips, sizeof strips);
-        accepted("a message with parameters");
+        take("a message with parameters");
     }
     saved = box;
 }
-static void again(void) { box = saved; }
+// 1Ch: a content whose first font is the number, so that no two messages are the same
+static void message(u8 number, size (*make)(u8 *)) { d[0] = number; memcpy(d + 1, PARAM, 37); size n = make(d + 38); d[40] = number; frame(0x1C, d, 38 + n); }
+static void keep(u8 last, size (*make)(u8 *))    // a store with messages of the numbers from 1 on
+{
+    start(1); memset(store, 0, sizeof store);
+    for (u8 k = 1; k <= last; k++) { message(k, make); take("a message for the store"); }
+    memcpy(lent, store, sizeof store);
+}
+static void again(void) { box = saved; memcpy(store, lent, sizeof store); }
 static const u8 A[] = {0x01, 0x0A, 0x02, 0x38, 'I','M','A','J','E',' ', 0x01, 0x54, 'F','R','A','N','C','E', 0x0D};
 
-static void group(const char *state)
+static void alone(void)     // the calls that are lent no store
 {
-    size n; put("state "); put(state); put("\n");
+    size n;
+    again(); measure("tick", 1);
+    again(); measure("set_clock", 2);
+    again(); measure("fresh", 3);
+    n = plain(in); n_in = n; measure("test-512", 4);
+    n = mixed(in); n_in = n; measure("test-512-mixed", 4);
+    memset(in, 7, 550); n_in = 550; measure("build-550", 5);
+}
+static void with_store(void)
+{
+    size n;
     again(); n_in = 0; measure("none", 0);
     again(); in[0] = 0x0A; n_in = 1; measure("part-1", 0);
     again(); d[0] = 1; n = plain(d + 1); frame(0x0A, d, 1 + n); n_in--; measure("part-516", 0);
@@ -101,7 +126,14 @@ static void group(const char *state)
     again(); d[0] = 1; n = mixed(d + 1); frame(0x0A, d, 1 + n); measure("0A-512-mixed", 0);
     again(); d[0] = 1; memcpy(d + 1, PARAM, 37); frame(0x0B, d, 38); measure("0B", 0);
     again(); d[0] = 1; memcpy(d + 1, PARAM, 37); n = plain(d + 38); frame(0x0C, d, 38 + n); measure("0C-512", 0);
+    // number 1 is the first record and 79 none: the new one takes its place or goes behind the last, or has no room, 16
+    again(); message(1, plain); measure("1C-1-512", 0);
+    again(); message(1, small); measure("1C-1-61", 0);
+    again(); message(79, plain); measure("1C-79-512", 0);
+    again(); message(79, small); measure("1C-79-61", 0);
     again(); d[0] = 1; frame(0x39, d, 1); measure("39", 0);
+    again(); d[0] = 1; d[1] = 14; frame(0x40, d, 2); measure("40-14", 0);
+    again(); d[0] = 1; d[1] = 78; frame(0x40, d, 2); measure("40-78", 0);
     again(); d[0] = 1; d[1] = 0; d[2] = 5; d[3] = 'I'; d[4] = 'T'; frame(0x42, d, 5); measure("42-2", 0);
     again(); d[0] = 1; d[1] = 0; d[2] = 3; memset(d + 3, 'Q', 508); frame(0x42, d, 511); measure("42-508", 0);
     again(); d[0] = 1; frame(0x43, d, 1); measure("43", 0);
@@ -112,22 +144,29 @@ static void group(const char *state)
     again(); in[0] = 2; memset(in + 1, 'u', 10); in[11] = 3; n_in = 12; measure("update-10", 0);
     again(); frame(0x0A, A, sizeof A); in[n_in - 1] ^= 1; measure("check-wrong", 0);
     again(); in[0] = 0x0A; in[1] = 9; in[2] = 9; n_in = 3; measure("too-long", 0);
-    again(); measure("tick", 1);
-    again(); measure("set_clock", 2);
-    again(); measure("fresh", 3);
-    n = plain(in); n_in = n; measure("test-512", 4);
-    n = mixed(in); n_in = n; measure("test-512-mixed", 4);
-    memset(in, 7, 550); n_in = 550; measure("build-550", 5);
+    again(); store[sizeof store - 1] = 1; in[0] = 0x05; n_in = 1; measure("05-unformed", 0);
+    again(); n_in = plain(in); asked = 14; measure("shown-14", 6);
+    again(); n_in = plain(in); asked = 78; measure("shown-78", 6);
+    again(); n_in = plain(in); asked = 80; measure("shown-80", 6);
+}
+static void group(const char *state, const char *stored, void (*calls)(void)) { put("state "); put(state); put(" "); put(stored); put("\n"); calls(); }
+static void each(const char *stored, void (*calls)(void))    // the calls in six states of the printer
+{
+    start(1); group("empty-type-1", stored, calls);
+    fill(plain); group("four-plain", stored, calls);
+    fill(mixed); group("four-mixed", stored, calls);
+    fill(counters); group("four-counters", stored, calls);
+    fill(dates); group("four-dates", stored, calls);
+    fill(fields); group("four-fields", stored, calls);
 }
 int bench_main(void)
 {
-    put("size state "); num(sizeof box); put(" answer "); num(sizeof answer); put(" strips "); num(sizeof strips); put(" input "); num(sizeof in); put("\n");
+    put("size state "); num(sizeof box); put(" store "); num(sizeof store); put(" answer "); num(sizeof answer); put(" strips "); num(sizeof strips);
+    put(" input "); num(sizeof in); put("\n");
     measure("empty", 99);
-    start(1); group("empty-type-1");
-    fill(plain); group("four-plain");
-    fill(mixed); group("four-mixed");
-    fill(counters); group("four-counters");
-    fill(dates); group("four-dates");
-    fill(fields); group("four-fields");
+    keep(0, plain); each("none", alone); each("empty", with_store);
+    keep(14, plain); each("14-plain", with_store);
+    keep(14, fields); each("14-fields", with_store);
+    keep(78, small); each("78-small", with_store);
     return 0;
 }

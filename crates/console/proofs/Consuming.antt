@@ -16,10 +16,13 @@ use Rattle.printer.specs.State.{Printer, printer-of, valid-state}
 use Rattle.printer.specs.Order.{Order}
 use Rattle.printer.specs.Change.{update-fields}
 use Rattle.printer.specs.Receive.{Outcome, outcome, handled, obeyed, order, enquire}
-use Rattle.printer.specs.Demands.{Call, after-all, full, is-fresh}
+use Rattle.library.proofs.StoreLaws.{blank-store}
+use Rattle.printer.specs.Messages.{valid-store}
+use Rattle.printer.specs.Demands.{after-all, full, is-fresh}
 use Rattle.printer.proofs.Accepting.{valid-handled}
 use Rattle.printer.proofs.Reaching.{reached-valid}
-use Rattle.console.specs.Console.{start-state, next}
+use Rattle.printer.proofs.Storing.{store-stays}
+use Rattle.console.specs.Console.{start-state, start-store, Stand, left, next, Walks, begins, goes-on}
 
 abbrev Takes : Received → Type 0
 Takes Partial = Unit {0}
@@ -62,25 +65,36 @@ obeyed-takes : (p : Printer) (o : Order) (c : ℕ) → 1 ≤ c → 1 ≤ obeyed 
 unfolding obeyed
 obeyed-takes p o c h = checked-case (λ (x : Outcome). 1 ≤ x .consumed) (o .tests) _ _ (λ t e. h) (λ e. h)
 
-handled-takes : (p : Printer) (s : List ℕ) (r : Received) → Takes r → (handled p s r .number ≡ 3 → ⊥) → 1 ≤ handled p s r .consumed
-handled-takes p s Partial h z = absurd (z refl)
-handled-takes p s (Refused k c) h z = h
-handled-takes p s (Misfit k i n c) h z = h
-handled-takes p s Enquiry h z = obeyed-takes p (enquire p) 1 (omega arith)
-handled-takes p s (Update n c) h z = obeyed-takes p (update-fields p (take n (drop 1 s))) c h
-handled-takes p s (Frame i n c) h z = obeyed-takes p (order p i (take n (drop 3 s))) c h
+handled-takes : (p : Printer) (store s : List ℕ) (r : Received) → Takes r → (handled p store s r .number ≡ 3 → ⊥) → 1 ≤ handled p store s r .consumed
+handled-takes p store s Partial h z = absurd (z refl)
+handled-takes p store s (Refused k c) h z = h
+handled-takes p store s (Misfit k i n c) h z = h
+handled-takes p store s Enquiry h z = obeyed-takes p (enquire p) 1 (omega arith)
+handled-takes p store s (Update n c) h z = obeyed-takes p (update-fields p (take n (drop 1 s))) c h
+handled-takes p store s (Frame i n c) h z = obeyed-takes p (order p store i (take n (drop 3 s))) c h
 
--- In a valid state, with buffers of the stated size: "numbers 0 and 4 to 13 always consume something".
-pub consumes-some : (m s : List ℕ) → valid-state m ≡ true → 1 ≤ length s → (outcome m (full s) .number ≡ 3 → ⊥) → 1 ≤ outcome m (full s) .consumed
-consumes-some m s v h =
-    subst (λ (o : Outcome). (o .number ≡ 3 → ⊥) → 1 ≤ o .consumed) (sym (valid-handled m s v))
-    (handled-takes (printer-of m) s (received s) (received-takes s h))
+-- In a valid state, with a well-formed store and buffers of the stated size: "numbers 0 and 4 to 13 always consume something".
+pub consumes-some : (m store s : List ℕ) → valid-state m ≡ true → valid-store store ≡ true → 1 ≤ length s → (outcome m (full store s) .number ≡ 3 → ⊥)
+    → 1 ≤ outcome m (full store s) .consumed
+consumes-some m store s v w h =
+    subst (λ (o : Outcome). (o .number ≡ 3 → ⊥) → 1 ≤ o .consumed) (sym (valid-handled m store s v w))
+    (handled-takes (printer-of m) store s (received s) (received-takes s h))
 
 start-fresh : is-fresh 1 (moment 58 59 23 (date 29 2 24)) ≡ true
 unfolding is-real is-date days-in is-leap
 start-fresh = refl
 
-pub next-takes : (s : List ℕ) (calls : List Call) (place : ℕ) → place < length s → (next s calls place .number ≡ 3 → ⊥) → 1 ≤ next s calls place .consumed
-next-takes s calls place h =
-    consumes-some (after-all start-state calls) (drop place s) (reached-valid 1 (moment 58 59 23 (date 29 2 24)) calls start-fresh)
-    (omega (arith, length-drop place s))
+-- The store of a walk is well formed: it is empty at the start, and every call leaves it so.
+start-formed : valid-store start-store ≡ true
+unfolding valid-store
+start-formed = rw (blank-store .0, blank-store .1) refl
+
+pub walked-formed : {s : List ℕ} {w : Stand} → Walks s w → valid-store (w .store) ≡ true
+walked-formed begins = start-formed
+walked-formed {s} (goes-on w v h z) = store-stays (after-all start-state (w .calls)) (left s w) (walked-formed v)
+
+pub next-takes : (s : List ℕ) (w : Stand) → Walks s w → w .place < length s → (next s w .number ≡ 3 → ⊥) → 1 ≤ next s w .consumed
+next-takes s w v h =
+    consumes-some (after-all start-state (w .calls)) (w .store) (drop (w .place) s)
+    (reached-valid 1 (moment 58 59 23 (date 29 2 24)) (w .calls) start-fresh) (walked-formed v)
+    (omega (arith, length-drop (w .place) s))

@@ -3,7 +3,7 @@ use Prim.Native.Nat.{ℕ, _+_, _-_, _<_, _≤_}
 use mathlib.Core.Bool.{Bool, true, false, false≢true}
 use mathlib.Core.Logic.{inl, inr}
 use mathlib.Core.List.{List, [], _∷_, _++_}
-use mathlib.Core.Path.{_≡_, refl, sym, subst, _∙_, ap}
+use mathlib.Core.Path.{_≡_, refl, sym, subst, _∙_, ap, ap₂}
 use native.Mathlib.Omega.{arith}
 use borrow.Rule.Slice.PartMut.{midOf}
 use borrow.Author.Tests.{eq-eqb, ne-eqb, le-ltb, eqb-true}
@@ -17,12 +17,13 @@ use Rattle.line.proofs.Laws.{length-line, most-digits, front-fits}
 use Rattle.calendar.specs.Clock.{date, moment}
 use Rattle.printer.specs.State.{state-size}
 use Rattle.printer.specs.Call.{Freshens}
-use Rattle.printer.specs.Receive.{Outcome, Meets, Receives, outcome, kept}
+use Rattle.printer.specs.Order.{StoreChange, unchanged, store-after}
+use Rattle.printer.specs.Receive.{Handed, Outcome, Meets, Fulfils, Receives, handed, outcome, kept}
 use Rattle.printer.specs.Demands.{Call, hand-in, after, after-all, full}
 use Rattle.printer.specs.declared.answer.Answered.{Answered}
 use Rattle.printer.proofs.Accepting.{room-enough}
-use Rattle.printer.proofs.OutcomeLaws.{answer-fits, consumes-handed-in}
-use Rattle.console.specs.Console.{line-of, line-size, next, start-state, Walks, begins, goes-on, Starts, Turns, Runs}
+use Rattle.printer.proofs.OutcomeLaws.{answer-fits, consumes-handed-in, refusal-keeps}
+use Rattle.console.specs.Console.{line-of, line-size, Stand, first-stand, left, next, onward, start-state, start-store, Walks, begins, goes-on, Starts, Turns, Runs}
 use Rattle.console.specs.declared.Turn.{Turn}
 use Rattle.console.proofs.Consuming.{next-takes}
 
@@ -42,12 +43,10 @@ pub a-line : (o : Outcome) → (o .number ≡ 3 → ⊥) → line-of o ≡ line 
 a-line o e = rw (ne-eqb (o .number) 3 e)
 
 -- With buffers of the stated size.
-pub met : {m s answer strips : List ℕ} {r : Answered} {m′ answer′ strips′ : List ℕ} → Receives m s answer strips r m′ answer′ strips′
-    → 554 ≤ length answer → 6144 ≤ length strips → Meets (outcome m (full s)) m answer strips r m′ answer′ strips′
-met {m} {s} {answer} {strips} {r} {m′} {answer′} {strips′} p a b =
-    subst (λ (o : Outcome). Meets o m answer strips r m′ answer′ strips′)
-    (room-enough m (record { bytes = s; answer-room = length answer; strip-room = length strips }) a b)
-    (p .meets)
+pub met : {m store s answer strips : List ℕ} {r : Answered} {m′ store′ answer′ strips′ : List ℕ} → Receives m store s answer strips r m′ store′ answer′ strips′
+    → 554 ≤ length answer → 6144 ≤ length strips → Fulfils (outcome m (full store s)) m store answer strips r m′ store′ answer′ strips′
+met {m} {store} {s} {answer} {strips} {r} {m′} {store′} {answer′} {strips′} p a b =
+    subst (λ (o : Outcome). Fulfils o m store answer strips r m′ store′ answer′ strips′) (room-enough m (handed store s answer strips) a b) (p .fulfils)
 
 -- The answer lies inside its buffer, and is what the outcome says.
 pub answer-inside : {o : Outcome} {m answer strips : List ℕ} {r : Answered} {m′ answer′ strips′ : List ℕ} → Meets o m answer strips r m′ answer′ strips′
@@ -62,23 +61,26 @@ answer-taken {o} {answer = answer} {r = r} {answer′ = answer′} p =
     ∙ take-append-seam (o .answer) (drop (length (o .answer)) answer)
 
 -- Number 3: no line.
-pub waits : {m s answer strips : List ℕ} {r : Answered} {m′ answer′ strips′ : List ℕ} (text : List ℕ) → Meets (outcome m (full s)) m answer strips r m′ answer′ strips′
-    → r .number ≡ 3 → Turns m s text (record { size = 0; consumed = r .consumed }) m′ text
-waits {m} {s} text p e =
-    let o : Outcome = outcome m (full s) in
+pub waits : {m store s answer strips : List ℕ} {r : Answered} {m′ store′ answer′ strips′ : List ℕ} (text : List ℕ)
+    → Fulfils (outcome m (full store s)) m store answer strips r m′ store′ answer′ strips′
+    → r .number ≡ 3 → Turns m store s text (record { size = 0; consumed = r .consumed }) m′ store′ text
+waits {m} {store} {s} text f e =
+    let o : Outcome = outcome m (full store s) in
+    let p = f .meets in
     let none : [] ≡ line-of o = sym (no-line o (sym (p .gives) ∙ e)) in
     record {
       size = ap length none;
       consumed = p .consumes;
       state = p .leaves;
+      stores = f .stores;
       line = ap (λ (l : List ℕ). l ++ drop (length l) text) none;
     }
 
 -- Every line has its room.
-pub longest-line : (m s : List ℕ) → length (line (outcome m (full s) .number) (outcome m (full s) .answer)) ≤ line-size
-longest-line m s =
-    let o : Outcome = outcome m (full s) in
-    omega (arith, length-line (o .number) (o .answer), most-digits (o .number), answer-fits m (full s))
+pub longest-line : (m : List ℕ) (h : Handed) → length (line (outcome m h .number) (outcome m h .answer)) ≤ line-size
+longest-line m h =
+    let o : Outcome = outcome m h in
+    omega (arith, length-line (o .number) (o .answer), most-digits (o .number), answer-fits m h)
 
 lined-there : (room number : ℕ) (answer : List ℕ) → length (line number answer) ≤ room → lined room number answer ≡ Written (length (line number answer))
 unfolding lined
@@ -99,49 +101,57 @@ short-never k e = subst there (sym e) tt
     there (Written i) = Unit {0}
 
 -- Another number: its line.
-pub answered : (s : List ℕ) {m answer strips : List ℕ} {r : Answered} {m′ answer′ strips′ : List ℕ} {text text′ : List ℕ} {l : Lined}
-    → Meets (outcome m (full s)) m answer strips r m′ answer′ strips′ → line-size ≤ length text
-    → Writes text (r .number) (take (r .answer) answer′) l text′ → l ≡ Written (length (line (outcome m (full s) .number) (outcome m (full s) .answer)))
-answered s {m} {r = r} {answer′ = answer′} {text = text} p h w =
-    let o : Outcome = outcome m (full s) in
+pub answered : (x : Handed) {m answer strips : List ℕ} {r : Answered} {m′ answer′ strips′ : List ℕ} {text text′ : List ℕ} {l : Lined}
+    → Meets (outcome m x) m answer strips r m′ answer′ strips′ → line-size ≤ length text
+    → Writes text (r .number) (take (r .answer) answer′) l text′ → l ≡ Written (length (line (outcome m x .number) (outcome m x .answer)))
+answered x {m} {r = r} {answer′ = answer′} {text = text} p h w =
+    let o : Outcome = outcome m x in
     w .answered
     ∙ ap (λ (n : ℕ). lined (length text) n (take (r .answer) answer′)) (p .gives)
     ∙ ap (λ (a : List ℕ). lined (length text) (o .number) a) (answer-taken p)
-    ∙ lined-there (length text) (o .number) (o .answer) (omega (arith, longest-line m s))
+    ∙ lined-there (length text) (o .number) (o .answer) (omega (arith, longest-line m x))
 
-pub never-short : (s : List ℕ) {m answer strips : List ℕ} {r : Answered} {m′ answer′ strips′ : List ℕ} {text text′ : List ℕ} {l : Lined} {A : Type 0}
-    → Meets (outcome m (full s)) m answer strips r m′ answer′ strips′ → line-size ≤ length text
+pub never-short : (x : Handed) {m answer strips : List ℕ} {r : Answered} {m′ answer′ strips′ : List ℕ} {text text′ : List ℕ} {l : Lined} {A : Type 0}
+    → Meets (outcome m x) m answer strips r m′ answer′ strips′ → line-size ≤ length text
     → Writes text (r .number) (take (r .answer) answer′) l text′ → l ≡ Short → A
-never-short s p h w e = absurd (short-never _ (sym e ∙ answered s p h w))
+never-short x p h w e = absurd (short-never _ (sym e ∙ answered x p h w))
 
-pub turns : {m s answer strips : List ℕ} {r : Answered} {m′ answer′ strips′ : List ℕ} {text text′ : List ℕ} {l : Lined} (n : ℕ)
-    → Meets (outcome m (full s)) m answer strips r m′ answer′ strips′ → line-size ≤ length text
+pub turns : {m store s answer strips : List ℕ} {r : Answered} {m′ store′ answer′ strips′ : List ℕ} {text text′ : List ℕ} {l : Lined} (n : ℕ)
+    → Fulfils (outcome m (full store s)) m store answer strips r m′ store′ answer′ strips′ → line-size ≤ length text
     → Writes text (r .number) (take (r .answer) answer′) l text′ → (r .number ≡ 3 → ⊥) → l ≡ Written n
-    → Turns m s text (record { size = n; consumed = r .consumed }) m′ text′
-turns {m} {s} {r = r} {answer′ = answer′} {text = text} {text′ = text′} n p h w z e =
-    let o : Outcome = outcome m (full s) in
+    → Turns m store s text (record { size = n; consumed = r .consumed }) m′ store′ text′
+turns {m} {store} {s} {r = r} {answer′ = answer′} {text = text} {text′ = text′} n f h w z e =
+    let o : Outcome = outcome m (full store s) in
+    let p = f .meets in
     let its : line (o .number) (o .answer) ≡ line-of o = sym (a-line o (λ t. z (p .gives ∙ t))) in
     let same : line (r .number) (take (r .answer) answer′) ≡ line-of o =
     ap (λ (k : ℕ). line k (take (r .answer) answer′)) (p .gives) ∙ ap (λ (a : List ℕ). line (o .number) a) (answer-taken p) ∙ its in
     record {
-      size = size-there n _ (sym e ∙ answered s p h w) ∙ ap length its;
+      size = size-there n _ (sym e ∙ answered (full store s) p h w) ∙ ap length its;
       consumed = p .consumes;
       state = p .leaves;
+      stores = f .stores;
       line =
           w .buffer
           ∙ ap (λ (q : Lined). bytes-of q (r .number) (take (r .answer) answer′) ++ drop (length (bytes-of q (r .number) (take (r .answer) answer′))) text) e
           ∙ ap (λ (x : List ℕ). x ++ drop (length x) text) same;
     }
 
--- ---- The walk.
--- A place that was walked to, and the state there.
-pub record At (s m : List ℕ) (place : ℕ) : Type 0 where
-  pub calls : List Call
-  pub walked : Walks s calls place
-  pub state : m ≡ after-all start-state calls
+-- What waits for more puts nothing into the store.
+waits-stored : (m : List ℕ) (h : Handed) → outcome m h .number ≡ 3 → outcome m h .store ≡ unchanged
+waits-stored m h e = refusal-keeps m h (λ z. omega arith) .store
 
-pub at-start : (s m : List ℕ) → m ≡ start-state → At s m 0
-at-start s m e = record { calls = []; walked = begins; state = e }
+-- ---- The walk.
+-- A place that was walked to, and the state and the store there.
+pub record At (s m store : List ℕ) (place : ℕ) : Type 0 where
+  pub stand : Stand
+  pub walked : Walks s stand
+  pub here : place ≡ stand .place
+  pub state : m ≡ after-all start-state (stand .calls)
+  pub stores : store ≡ stand .store
+
+pub at-start : (s m store : List ℕ) → m ≡ start-state → store ≡ start-store → At s m store 0
+at-start s m store e f = record { stand = first-stand; walked = begins; here = refl; state = e; stores = f }
 
 after-snoc : (m : List ℕ) (calls : List Call) (c : Call) → after-all m (calls ++ (c ∷ [])) ≡ after (after-all m calls) c
 after-snoc m [] c = refl
@@ -157,62 +167,65 @@ waiting o e = go (eqb (o .number) 3) refl
         let n : length (line (o .number) (o .answer)) ≡ 0 = rw h at e in
         absurd (omega (arith, length-line (o .number) (o .answer)))
 
--- The outcome of the next call, in the state that was walked to.
-next-there : {s m : List ℕ} {place : ℕ} (a : At s m place) → outcome m (full (drop place s)) ≡ next s (a .calls) place
-next-there {s} {place = place} a = ap (λ (l : List ℕ). outcome l (full (drop place s))) (a .state)
-
-heard : {s m text m′ text′ : List ℕ} {place : ℕ} {r : Turn} (a : At s m place) → Turns m (drop place s) text r m′ text′ → (r .size ≡ 0 → ⊥)
-    → next s (a .calls) place .number ≡ 3 → ⊥
-heard {s} {m} {place = place} {r = r} a t z e =
-    let o : Outcome = outcome m (full (drop place s)) in
-    let three : o .number ≡ 3 = ap (λ (x : Outcome). x .number) (next-there a) ∙ e in
-    z (t .size ∙ ap length (no-line o three))
-
-pub goes : {s m text m′ text′ : List ℕ} {place : ℕ} {r : Turn} → At s m place → Turns m (drop place s) text r m′ text′ → place < length s → (r .size ≡ 0 → ⊥)
-    → At s m′ (place + r .consumed)
-goes {s} {m} {m′ = m′} {place = place} {r = r} a t h z =
-    let took : r .consumed ≡ next s (a .calls) place .consumed = t .consumed ∙ ap (λ (x : Outcome). x .consumed) (next-there a) in
-    let call : Call = hand-in (full (drop place s)) in
-    record {
-      calls = a .calls ++ (call ∷ []);
-      walked = subst (λ (n : ℕ). Walks s (a .calls ++ (call ∷ [])) (place + n)) (sym took) (goes-on (a .calls) place (a .walked) h (heard a t z));
-      state = t .state ∙ ap (λ (l : List ℕ). after l call) (a .state) ∙ sym (after-snoc start-state (a .calls) call);
-    }
-
 stays : (o : Outcome) (m : List ℕ) → o .number ≡ 3 → kept o m ≡ m
 stays o m e = rw (ne-eqb (o .number) 0 (λ z. omega arith))
 
-pub stops : {s m text m′ text′ : List ℕ} {place : ℕ} {r : Turn} → At s m place → Turns m (drop place s) text r m′ text′ → r .size ≡ 0
-    → Runs s (record { place = place; written = true }) m′
-stops {s} {m} {place = place} {r = r} a t z =
-    let o : Outcome = outcome m (full (drop place s)) in
-    let three : o .number ≡ 3 = waiting o (sym (t .size) ∙ z) in
-    record {
-      calls = a .calls;
-      walked = a .walked;
-      state = t .state ∙ stays o m three ∙ a .state;
-      ended = λ _. inr (sym (ap (λ (x : Outcome). x .number) (next-there a)) ∙ three);
-    }
+module _ {s m store : List ℕ} {place : ℕ} (a : At s m store place) where
+  -- The outcome of the next call, in the state that was walked to.
+  next-there : outcome m (full store (drop place s)) ≡ next s (a .stand)
+  next-there = rw (a .state, a .stores, a .here)
 
-pub fails : {s m : List ℕ} {place : ℕ} → At s m place → Runs s (record { place = place; written = false }) m
-fails a = record { calls = a .calls; walked = a .walked; state = a .state; ended = λ e. absurd (false≢true e) }
+  module _ {text m′ store′ text′ : List ℕ} {r : Turn} (t : Turns m store (drop place s) text r m′ store′ text′) where
+    heard : (r .size ≡ 0 → ⊥) → next s (a .stand) .number ≡ 3 → ⊥
+    heard z e =
+        let o : Outcome = outcome m (full store (drop place s)) in
+        let three : o .number ≡ 3 = ap (λ (x : Outcome). x .number) next-there ∙ e in
+        z (t .size ∙ ap length (no-line o three))
 
--- A call that has a line consumes something.
-pub moves : {s m text m′ text′ : List ℕ} {place : ℕ} {r : Turn} → At s m place → Turns m (drop place s) text r m′ text′ → place < length s → (r .size ≡ 0 → ⊥)
-    → 1 ≤ r .consumed
-moves {s} {place = place} a t h z =
-    subst (λ (n : ℕ). 1 ≤ n) (sym (t .consumed ∙ ap (λ (x : Outcome). x .consumed) (next-there a))) (next-takes s (a .calls) place h (heard a t z))
+    pub goes : place < length s → (r .size ≡ 0 → ⊥) → At s m′ store′ (place + r .consumed)
+    goes h z =
+        let w : Stand = a .stand in
+        let call : Call = hand-in (left s w) in
+        record {
+          stand = onward s w;
+          walked = goes-on w (a .walked) (subst (λ (n : ℕ). n < length s) (a .here) h) (heard z);
+          here = ap (λ (n : ℕ). place + n) (t .consumed ∙ ap (λ (x : Outcome). x .consumed) next-there) ∙ ap (λ (n : ℕ). n + next s w .consumed) (a .here);
+          state = t .state ∙ ap₂ kept next-there (a .state) ∙ sym (after-snoc start-state (w .calls) call);
+          stores = t .stores ∙ ap₂ (λ (x : Outcome) (l : List ℕ). store-after (x .store) l) next-there (a .stores);
+        }
 
-pub ends : {s m : List ℕ} {place : ℕ} → At s m place → length s ≤ place → Runs s (record { place = place; written = true }) m
-ends a h = record { calls = a .calls; walked = a .walked; state = a .state; ended = λ _. inl h }
+    pub stops : r .size ≡ 0 → Runs s (record { place = place; written = true }) m′ store′
+    stops z =
+        let o : Outcome = outcome m (full store (drop place s)) in
+        let three : o .number ≡ 3 = waiting o (sym (t .size) ∙ z) in
+        record {
+          stand = a .stand;
+          walked = a .walked;
+          place = a .here;
+          state = t .state ∙ stays o m three ∙ a .state;
+          stores = t .stores ∙ ap (λ (c : StoreChange). store-after c store) (waits-stored m (full store (drop place s)) three) ∙ a .stores;
+          ended = λ _. inr (sym (ap (λ (x : Outcome). x .number) next-there) ∙ three);
+        }
+
+    -- A call that has a line consumes something.
+    pub moves : place < length s → (r .size ≡ 0 → ⊥) → 1 ≤ r .consumed
+    moves h z =
+        subst (λ (n : ℕ). 1 ≤ n) (sym (t .consumed ∙ ap (λ (x : Outcome). x .consumed) next-there))
+        (next-takes s (a .stand) (a .walked) (subst (λ (n : ℕ). n < length s) (a .here) h) (heard z))
+
+  pub fails : Runs s (record { place = place; written = false }) m store
+  fails = record { stand = a .stand; walked = a .walked; place = a .here; state = a .state; stores = a .stores; ended = λ e. absurd (false≢true e) }
+
+  pub ends : length s ≤ place → Runs s (record { place = place; written = true }) m store
+  ends h = record { stand = a .stand; walked = a .walked; place = a .here; state = a .state; stores = a .stores; ended = λ _. inl (rw (sym (a .here)) h) }
 
 -- The bytes that are left, as they are lent.
 pub rest-lent : (place : ℕ) (s : List ℕ) → midOf place (length s - place) s ≡ drop place s
 rest-lent place s = take-all (length s - place) (drop place s) (simp length-drop (omega arith))
 
 -- What a line leaves of its buffer, and what a call consumes, lie inside.
-pub line-inside : {m s text m′ text′ : List ℕ} {r : Turn} → Turns m s text r m′ text′ → r .size ≤ length text′
-line-inside {m} {s} {text} {text′ = text′} {r = r} t = front-fits (line-of (outcome m (full s))) text text′ (r .size) (t .size) (t .line)
+pub line-inside : {m store s text m′ store′ text′ : List ℕ} {r : Turn} → Turns m store s text r m′ store′ text′ → r .size ≤ length text′
+line-inside {m} {store} {s} {text} {text′ = text′} {r = r} t = front-fits (line-of (outcome m (full store s))) text text′ (r .size) (t .size) (t .line)
 
-pub consumed-inside : (s : List ℕ) (place : ℕ) {m text m′ text′ : List ℕ} {r : Turn} → Turns m (drop place s) text r m′ text′ → place ≤ length s → place + r .consumed ≤ length s
-consumed-inside s place {m} t h = omega (arith, t .consumed, consumes-handed-in m (full (drop place s)), length-drop place s)
+pub consumed-inside : (s : List ℕ) (place : ℕ) {m store text m′ store′ text′ : List ℕ} {r : Turn} → Turns m store (drop place s) text r m′ store′ text′ → place ≤ length s → place + r .consumed ≤ length s
+consumed-inside s place {m} {store} t h = omega (arith, t .consumed, consumes-handed-in m (full store (drop place s)), length-drop place s)

@@ -20,8 +20,9 @@ same-turn : (a b c d : ℕ) → a ≡ c → b ≡ d → _≡_ {A = Turn} (record
 same-turn a b c d p q = rw (p, q)
 
 pub turns-unique : TurnsUnique
-turns-unique m s text r r′ m′ m″ text′ text″ p q = (
+turns-unique m store s text r r′ m′ m″ store′ store″ text′ text″ p q = (
   same-turn (r .size) (r .consumed) (r′ .size) (r′ .consumed) (p .size ∙ sym (q .size)) (p .consumed ∙ sym (q .consumed)),
   p .state ∙ sym (q .state),
+  p .stores ∙ sym (q .stores),
   p .line ∙ sym (q .line),
 )

@@ -5,12 +5,13 @@ use mathlib.Core.List.{List, [], _∷_, _++_}
 use mathlib.Core.Logic.{_⊎_}
 use mathlib.Core.Path.{_≡_}
 use lib.Dec.{eqb}
-use lib.ListN.{length, drop}
+use lib.ListN.{length, drop, replicate}
 use Rattle.line.specs.Line.{line}
 use Rattle.calendar.specs.Clock.{date, moment}
 use Rattle.printer.specs.State.{bytes-of, state-size}
 use Rattle.printer.specs.Call.{fresh}
-use Rattle.printer.specs.Receive.{Outcome, outcome, kept}
+use Rattle.printer.specs.Order.{store-after}
+use Rattle.printer.specs.Receive.{Handed, Outcome, outcome, kept}
 use Rattle.printer.specs.Demands.{Call, hand-in, after-all, full}
 use Rattle.console.specs.declared.Turn.{Turn}
 use Rattle.console.specs.declared.Ran.{Ran}
@@ -18,6 +19,10 @@ use Rattle.console.specs.declared.Ran.{Ran}
 -- 01, Samples, the last paragraph: "The console program starts a fresh type 1 at 29 February 2024 23:59:58".
 abbrev pub start-state : List ℕ
 start-state = bytes-of (fresh 1 (moment 58 59 23 (date 29 2 24)))
+
+-- An empty store, kept from call to call.
+abbrev pub start-store : List ℕ
+start-store = replicate 8192 0x00
 
 -- 01, the same: it "prints one line a call: number, space, answer in capital hex without gaps [..]; 3 isn't printed".
 abbrev pub shown : Bool → List ℕ → List ℕ
@@ -31,18 +36,37 @@ line-of o = shown (eqb (o .number) 3) (line (o .number) (o .answer))
 abbrev pub line-size : ℕ
 line-size = 1113
 
--- What the box makes, behind some calls, of the bytes from a place on.
-abbrev pub next : List ℕ → List Call → ℕ → Outcome
-next s calls at = outcome (after-all start-state calls) (full (drop at s))
+-- How far a walk has come: the calls that were made, the store behind them, and the place in the bytes.
+pub record Stand : Type 0 where
+  pub calls : List Call
+  pub store : List ℕ
+  pub place : ℕ
 
--- 01, the same: a line a call "until 3 or no bytes are left". The calls that are made of the bytes read, and the place that they lead to.
-pub data Walks (s : List ℕ) : List Call → ℕ → Type 0 where
-  begins : Walks s [] 0
-  goes-on : (calls : List Call) (at : ℕ) → Walks s calls at → at < length s → (next s calls at .number ≡ 3 → ⊥) →
-      Walks s (calls ++ (hand-in (full (drop at s)) ∷ [])) (at + next s calls at .consumed)
+abbrev pub first-stand : Stand
+first-stand = record { calls = []; store = start-store; place = 0 }
 
-abbrev pub Ended : List ℕ → List Call → ℕ → Type 0
-Ended s calls at = (length s ≤ at) ⊎ (next s calls at .number ≡ 3)
+-- What is handed in there, what the box makes of it, and where that leads to.
+abbrev pub left : List ℕ → Stand → Handed
+left s w = full (w .store) (drop (w .place) s)
+
+abbrev pub next : List ℕ → Stand → Outcome
+next s w = outcome (after-all start-state (w .calls)) (left s w)
+
+abbrev pub onward : List ℕ → Stand → Stand
+onward s w =
+    record {
+      calls = w .calls ++ (hand-in (left s w) ∷ []);
+      store = store-after (next s w .store) (w .store);
+      place = w .place + next s w .consumed;
+    }
+
+-- 01, the same: a line a call "until 3 or no bytes are left".
+pub data Walks (s : List ℕ) : Stand → Type 0 where
+  begins : Walks s first-stand
+  goes-on : (w : Stand) → Walks s w → w .place < length s → (next s w .number ≡ 3 → ⊥) → Walks s (onward s w)
+
+abbrev pub Ended : List ℕ → Stand → Type 0
+Ended s w = (length s ≤ w .place) ⊎ (next s w .number ≡ 3)
 
 -- The contract of `start`: bytes of a state's size become the start state, others stay.
 pub record Starts (m m′ : List ℕ) : Type 0 where
@@ -50,15 +74,19 @@ pub record Starts (m m′ : List ℕ) : Type 0 where
   pub other : (length m ≡ state-size → ⊥) → m′ ≡ m
 
 -- The contract of `call`: how long the line is that lies over the text's front, and what the box consumed and left.
-pub record Turns (m s text : List ℕ) (r : Turn) (m′ text′ : List ℕ) : Type 0 where
-  pub size : r .size ≡ length (line-of (outcome m (full s)))
-  pub consumed : r .consumed ≡ outcome m (full s) .consumed
-  pub state : m′ ≡ kept (outcome m (full s)) m
-  pub line : text′ ≡ line-of (outcome m (full s)) ++ drop (length (line-of (outcome m (full s)))) text
+pub record Turns (m store s text : List ℕ) (r : Turn) (m′ store′ text′ : List ℕ) : Type 0 where
+  pub size : r .size ≡ length (line-of (outcome m (full store s)))
+  pub consumed : r .consumed ≡ outcome m (full store s) .consumed
+  pub state : m′ ≡ kept (outcome m (full store s)) m
+  pub stores : store′ ≡ store-after (outcome m (full store s) .store) store
+  pub line : text′ ≡ line-of (outcome m (full store s)) ++ drop (length (line-of (outcome m (full store s)))) text
 
--- The contract of `run`: the place was walked to, the state is that behind the walk's calls, and unless a write failed nothing follows.
-pub record Runs (s : List ℕ) (r : Ran) (m′ : List ℕ) : Type 0 where
-  pub calls : List Call
-  pub walked : Walks s calls (r .place)
-  pub state : m′ ≡ after-all start-state calls
-  pub ended : r .written ≡ true → Ended s calls (r .place)
+-- The contract of `run`: the place was walked to, state and store are those behind the walk's calls, and unless a write failed nothing
+-- follows.
+pub record Runs (s : List ℕ) (r : Ran) (m′ store′ : List ℕ) : Type 0 where
+  pub stand : Stand
+  pub walked : Walks s stand
+  pub place : r .place ≡ stand .place
+  pub state : m′ ≡ after-all start-state (stand .calls)
+  pub stores : store′ ≡ stand .store
+  pub ended : r .written ≡ true → Ended s stand

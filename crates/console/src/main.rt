@@ -1,6 +1,7 @@
-// The console of document 01: a fresh printer of type 1 is fed standard input, and each call is a line, but for one that waits for more.
+// The console of document 01: a fresh printer of type 1 with an empty store is fed standard input, and each call is a line, but for one that waits for more.
 use calendar::clock::Clock;
 use calendar::clock::Date;
+use library::store::STORE;
 use line::Lined;
 use line::write_line;
 use printer::answer::ANSWER;
@@ -11,7 +12,7 @@ use printer::state::STATE;
 ghost use Prim.Native.Nat.{_≤_};
 ghost use lib.ListN.{length};
 ghost use mathlib.Core.Path.{_≡_};
-ghost use Rattle.console.specs.Console.{line-size, Runs, start-state, Starts, Turns};
+ghost use Rattle.console.specs.Console.{line-size, Runs, start-state, start-store, Starts, Turns};
 
 // A number of up to three digits, a space, the longest answer in hex, a newline.
 const LINE: usize = 1113;
@@ -43,13 +44,13 @@ struct Turn {
 }
 
 // A call on the bytes that are left, and its line over the text's front; number 3 has none.
-fn call(state: &mut [u8], s: &[u8], text: &mut [u8]) -> Turn
+fn call(state: &mut [u8], store: &mut [u8], s: &[u8], text: &mut [u8]) -> Turn
     requires { ⌜ line-size ≤ length (now text) ⌝ }
-    ensures { λ r. ⌜ Turns (now (state .entry)) (now (s .entry)) (now (text .entry)) r (now (state .exit)) (now (text .exit)) ⌝ }
+    ensures { λ r. ⌜ Turns (now (state .entry)) (now (store .entry)) (now (s .entry)) (now (text .entry)) r (now (state .exit)) (now (store .exit)) (now (text .exit)) ⌝ }
 {
     let mut answer = [0; ANSWER];
     let mut strips = [0; STRIPS];
-    let done = receive(state, s, &mut answer, &mut strips);
+    let done = receive(state, store, s, &mut answer, &mut strips);
     let consumed = done.consumed;
     if done.number == 3 {
         return Turn { size: 0, consumed };
@@ -69,15 +70,15 @@ struct Ran {
 }
 
 // Calls until the box waits for more or no bytes are left. A failed write ends it too: the program then ends without the rest of its lines, and with status 0, since a `main` has no other.
-fn run(state: &mut [u8], s: &[u8]) -> Ran
-    requires { ⌜ now state ≡ start-state ⌝ }
-    ensures { λ r. ⌜ Runs (now (s .entry)) r (now (state .exit)) ⌝ }
+fn run(state: &mut [u8], store: &mut [u8], s: &[u8]) -> Ran
+    requires { ⌜ (now state ≡ start-state) × (now store ≡ start-store) ⌝ }
+    ensures { λ r. ⌜ Runs (now (s .entry)) r (now (state .exit)) (now (store .exit)) ⌝ }
 {
     let mut space = [0; LINE];
     let text: &mut [u8] = &mut space;
     let mut at = 0;
     while at < s.len() {
-        let turn = call(state, &s[at..], text);
+        let turn = call(state, store, &s[at..], text);
         let size = turn.size;
         if size == 0 {
             return Ran {
@@ -105,5 +106,6 @@ fn main() {
     let n = io::read_full(0, &mut input);
     let mut state = [0; STATE];
     start(&mut state);
-    run(&mut state, &input[..n]);
+    let mut store = [0; STORE];
+    run(&mut state, &mut store, &input[..n]);
 }

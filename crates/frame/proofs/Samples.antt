@@ -51,6 +51,13 @@ samples =
     ∷ sample (0x9C ∷ 0x00 ∷ 0x00 ∷ 0x9C ∷ []) (Misfit 6 0x9C 0 4)
     ∷ sample (0x99 ∷ 0x00 ∷ 0x00 ∷ 0x98 ∷ []) (Refused 5 4)
     ∷ sample (0x94 ∷ 0x00 ∷ 0x01 ∷ 0x00 ∷ 0x94 ∷ []) (Refused 5 5)
+    -- 02, Wish 1: 1Ch has "39 or more in all", 40h "two bytes".
+    ∷ sample (0x1C ∷ 0x00 ∷ 0x26 ∷ replicate 38 0x00 ++ 0x3A ∷ []) (Misfit 7 0x1C 38 42)
+    ∷ sample (0x1C ∷ 0x00 ∷ 0x27 ∷ replicate 39 0x00 ++ 0x3B ∷ []) (Frame 0x1C 39 43)
+    ∷ sample (0x1C ∷ 0x00 ∷ 0x28 ∷ replicate 40 0x00 ++ 0x34 ∷ []) (Frame 0x1C 40 44)
+    ∷ sample (0x40 ∷ 0x00 ∷ 0x01 ∷ 0x01 ∷ 0x40 ∷ []) (Misfit 7 0x40 1 5)
+    ∷ sample (0x40 ∷ 0x00 ∷ 0x02 ∷ 0x01 ∷ 0x05 ∷ 0x46 ∷ []) (Frame 0x40 2 6)
+    ∷ sample (0x40 ∷ 0x00 ∷ 0x03 ∷ 0x01 ∷ 0x05 ∷ 0x00 ∷ 0x47 ∷ []) (Misfit 7 0x40 3 7)
     ∷ []
 
 pub samples-hold : map (λ (s : Sample). received (s .bytes)) samples ≡ map (λ (s : Sample). s .answer) samples
@@ -72,6 +79,8 @@ sendings =
     sent 4 0x94 0 (builder.Written 4)
     ∷ sent 554 0x0A 550 (builder.Written 554)
     ∷ sent 6144 0x42 5 (builder.Written 9)
+    ∷ sent 554 0x1C 550 (builder.Written 554)
+    ∷ sent 6 0x40 2 (builder.Written 6)
     ∷ sent 3 0x94 0 (builder.Refused 2)
     ∷ sent 553 0x0A 550 (builder.Refused 2)
     ∷ sent 555 0x0A 551 (builder.Refused 4)

@@ -56,7 +56,8 @@ around = 4
 abbrev pub longest-data : ℕ
 longest-data = 550
 
--- 01, On the wire, the table: an identifier and its data length, "exactly so many" or "so many or more".
+-- 01, On the wire, the table: an identifier and its data length, "exactly so many" or "so many or more". 02, Wish 1: 1Ch "39 or more in
+-- all", 40h "two bytes".
 pub record Row : Type 0 where
   pub identifier : ℕ
   pub size : Size
@@ -69,7 +70,9 @@ table =
     row 0x0A (AtLeast 2)
     ∷ row 0x0B (Exactly 38)
     ∷ row 0x0C (AtLeast 39)
+    ∷ row 0x1C (AtLeast 39)
     ∷ row 0x39 (Exactly 1)
+    ∷ row 0x40 (Exactly 2)
     ∷ row 0x42 (AtLeast 4)
     ∷ row 0x43 (Exactly 1)
     ∷ row 0x52 (Exactly 0)

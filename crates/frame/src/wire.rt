@@ -60,7 +60,7 @@ pub(crate) fn check(s: &[u8]) -> u8
     check_from(c, &s[i..])
 }
 
-// The table of document 01, a row for each identifier.
+// The table of documents 01 and 02, a row for each identifier.
 pub(crate) fn size_of(identifier: u8) -> Size
     ensures { λ r. ⌜ r ≡ size-of identifier ⌝ }
 {
@@ -68,7 +68,9 @@ pub(crate) fn size_of(identifier: u8) -> Size
         0x0A => Size::AtLeast(2),
         0x0B => Size::Exactly(38),
         0x0C => Size::AtLeast(39),
+        0x1C => Size::AtLeast(39),
         0x39 => Size::Exactly(1),
+        0x40 => Size::Exactly(2),
         0x42 => Size::AtLeast(4),
         0x43 => Size::Exactly(1),
         0x52 => Size::Exactly(0),

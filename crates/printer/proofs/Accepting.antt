@@ -18,14 +18,15 @@ use Rattle.frame.specs.declared.receive.Received.the-variants.{Partial, Refused
 use Rattle.frame.proofs.Ground.{pick-case, both-true, never}
 use Rattle.frame.proofs.Heard.{Sound, sound}
 use Rattle.printer.specs.State.{Printer, valid-state, printer-of}
-use Rattle.printer.specs.Order.{Order, no-strips}
+use Rattle.printer.specs.Order.{Order, StoreChange, no-strips}
 use Rattle.printer.specs.Change.{set-message, set-parameters, set-both, edit-message, update-fields, updated-head}
+use Rattle.printer.specs.Messages.{valid-store, store-message, select-message}
 use Rattle.printer.specs.Request.{ask-counter, ask-message, ask-table, ask-clock}
 use Rattle.printer.specs.Print.{print}
-use Rattle.printer.specs.Receive.{Outcome, outcome, handled, obeyed, order, enquire, refusal, done, answer-size, strips-size}
+use Rattle.printer.specs.Receive.{Outcome, outcome, handled, obeyed, printer-order, order, enquire, refusal, done, answer-size, strips-size}
 use Rattle.printer.specs.OrderLaws.{numbered}
-use Rattle.printer.specs.Demands.{full, passes, printer-after, frame-after, strips-after, Effect, HasEffect, AcknowledgedExactly, ExactEffect, EffectKept, RoomEnough}
-use Rattle.printer.proofs.OrderLaws.{orders-numbered}
+use Rattle.printer.specs.Demands.{full, passes, printer-after, frame-after, strips-after, change-after, Effect, HasEffect, AcknowledgedExactly, ExactEffect, EffectKept, RoomEnough}
+use Rattle.printer.proofs.OrderLaws.{orders-numbered, update-stores}
 use Rattle.printer.proofs.Outcomes.{update-numbered}
 
 -- ---- An order: done where all its tests hold, and another number than 0 where one fails.
@@ -59,18 +60,20 @@ then-just (failed x n) h = never h
 -- ---- The effect of each order is the written one.
 -- What holds of the nine identifiers of the table holds of every identifier whose data is as long as the table says.
 pub of-table : (P : ℕ → Type 0) (i n : ℕ) → fits (size-of i) n ≡ true
-    → P 0x0A → P 0x0B → P 0x0C → P 0x39 → P 0x42 → P 0x43 → P 0x52 → P 0x94 → P 0xD6 → P i
+    → P 0x0A → P 0x0B → P 0x0C → P 0x1C → P 0x39 → P 0x40 → P 0x42 → P 0x43 → P 0x52 → P 0x94 → P 0xD6 → P i
 unfolding size-of
-of-table P i n fit x0A x0B x0C x39 x42 x43 x52 x94 xD6 =
+of-table P i n fit x0A x0B x0C x1C x39 x40 x42 x43 x52 x94 xD6 =
     pick-case Q (eqb i 0x0A) _ _ (λ h _. here 0x0A x0A h) (λ _.
     pick-case Q (eqb i 0x0B) _ _ (λ h _. here 0x0B x0B h) (λ _.
     pick-case Q (eqb i 0x0C) _ _ (λ h _. here 0x0C x0C h) (λ _.
+    pick-case Q (eqb i 0x1C) _ _ (λ h _. here 0x1C x1C h) (λ _.
     pick-case Q (eqb i 0x39) _ _ (λ h _. here 0x39 x39 h) (λ _.
+    pick-case Q (eqb i 0x40) _ _ (λ h _. here 0x40 x40 h) (λ _.
     pick-case Q (eqb i 0x42) _ _ (λ h _. here 0x42 x42 h) (λ _.
     pick-case Q (eqb i 0x43) _ _ (λ h _. here 0x43 x43 h) (λ _.
     pick-case Q (eqb i 0x52) _ _ (λ h _. here 0x52 x52 h) (λ _.
     pick-case Q (eqb i 0x94) _ _ (λ h _. here 0x94 x94 h) (λ _.
-    pick-case Q (eqb i 0xD6) _ _ (λ h _. here 0xD6 xD6 h) (λ _ h. never h)))))))))
+    pick-case Q (eqb i 0xD6) _ _ (λ h _. here 0xD6 xD6 h) (λ _ h. never h)))))))))))
     fit
   where
     Q : Size → Type 0
@@ -80,71 +83,74 @@ of-table P i n fit x0A x0B x0C x39 x42 x43 x52 x94 xD6 =
     here k x h = subst P (sym (eqb-true i k h)) x
 
 -- What the order of an identifier does is what document 01 writes there.
-pub record Does (p : Printer) (i : ℕ) (d : List ℕ) (o : Order) : Type 0 where
-  pub after : o .after ≡ printer-after p i d
+pub record Does (p : Printer) (store : List ℕ) (i : ℕ) (d : List ℕ) (o : Order) : Type 0 where
+  pub after : o .after ≡ printer-after p store i d
   pub frame : o .frame ≡ frame-after p i d
   pub strips : o .strips ≡ strips-after p i
+  pub stores : o .store ≡ change-after i d
 
-frame-does : (p : Printer) (i n : ℕ) (d : List ℕ) → fits (size-of i) n ≡ true → Does p i d (order p i d)
-unfolding order set-message set-parameters set-both edit-message ask-counter ask-message ask-table ask-clock print
-frame-does p i n d fit =
-    of-table (λ (i : ℕ). Does p i d (order p i d)) i n fit
-    (record { after = refl; frame = refl; strips = refl })
-    (record { after = refl; frame = refl; strips = refl })
-    (record { after = refl; frame = refl; strips = refl })
-    (record { after = refl; frame = refl; strips = refl })
-    (record { after = refl; frame = refl; strips = refl })
-    (record { after = refl; frame = refl; strips = refl })
-    (record { after = refl; frame = refl; strips = refl })
-    (record { after = refl; frame = refl; strips = refl })
-    (record { after = refl; frame = refl; strips = refl })
+frame-does : (p : Printer) (store : List ℕ) (i n : ℕ) (d : List ℕ) → fits (size-of i) n ≡ true → Does p store i d (order p store i d)
+unfolding order printer-order store-message select-message set-message set-parameters set-both edit-message ask-counter ask-message ask-table ask-clock print
+frame-does p store i n d fit =
+    of-table (λ (i : ℕ). Does p store i d (order p store i d)) i n fit
+    (record { after = refl; frame = refl; strips = refl; stores = refl })
+    (record { after = refl; frame = refl; strips = refl; stores = refl })
+    (record { after = refl; frame = refl; strips = refl; stores = refl })
+    (record { after = refl; frame = refl; strips = refl; stores = refl })
+    (record { after = refl; frame = refl; strips = refl; stores = refl })
+    (record { after = refl; frame = refl; strips = refl; stores = refl })
+    (record { after = refl; frame = refl; strips = refl; stores = refl })
+    (record { after = refl; frame = refl; strips = refl; stores = refl })
+    (record { after = refl; frame = refl; strips = refl; stores = refl })
+    (record { after = refl; frame = refl; strips = refl; stores = refl })
+    (record { after = refl; frame = refl; strips = refl; stores = refl })
 
 update-does : (p : Printer) (text : List ℕ) → (update-fields p text .after ≡ updated-head p text) × (update-fields p text .frame ≡ []) × (update-fields p text .strips ≡ no-strips)
 unfolding update-fields
 update-does p text = (refl, refl, refl)
 
 -- ---- What was received.
-handled-exactly : (p : Printer) (s : List ℕ) (r : Received) → Sound s r → (handled p s r .number ≡ 0) ↔ (passes p s r ≡ true)
-handled-exactly p s Partial h = (λ z. absurd (omega arith), λ e. never e)
-handled-exactly p s (Refused k c) h = (λ z. absurd (omega arith), λ e. never e)
-handled-exactly p s (Misfit k i n c) h = (λ z. absurd (omega arith), λ e. never e)
-handled-exactly p s Enquiry h = zero-exactly (obeyed-comes p (enquire p) 1 refl)
-handled-exactly p s (Update n c) h =
+handled-exactly : (p : Printer) (store s : List ℕ) (r : Received) → Sound s r → (handled p store s r .number ≡ 0) ↔ (passes p store s r ≡ true)
+handled-exactly p store s Partial h = (λ z. absurd (omega arith), λ e. never e)
+handled-exactly p store s (Refused k c) h = (λ z. absurd (omega arith), λ e. never e)
+handled-exactly p store s (Misfit k i n c) h = (λ z. absurd (omega arith), λ e. never e)
+handled-exactly p store s Enquiry h = zero-exactly (obeyed-comes p (enquire p) 1 refl)
+handled-exactly p store s (Update n c) h =
     zero-exactly (obeyed-comes p (update-fields p (take n (drop 1 s))) c (update-numbered p (take n (drop 1 s))))
-handled-exactly p s (Frame i n c) h =
-    zero-exactly (obeyed-comes p (order p i (take n (drop 3 s))) c (orders-numbered p i (take n (drop 3 s))))
+handled-exactly p store s (Frame i n c) h =
+    zero-exactly (obeyed-comes p (order p store i (take n (drop 3 s))) c (orders-numbered p store i (take n (drop 3 s))))
 
 -- An order that is done has the effect that it says.
-obeyed-effect : (p : Printer) (o : Order) (c : ℕ) {x : List ℕ} {y : List (List ℕ)} {q : Printer} → numbered (o .tests) ≡ true → all (o .tests) ≡ true
-    → o .frame ≡ x → o .strips ≡ y → o .after ≡ q → Effect (obeyed p o c) c x y q
-obeyed-effect p o c n t a b e =
+obeyed-effect : (p : Printer) (o : Order) (c : ℕ) {x : List ℕ} {y : List (List ℕ)} {q : Printer} {z : StoreChange} → numbered (o .tests) ≡ true → all (o .tests) ≡ true
+    → o .frame ≡ x → o .strips ≡ y → o .after ≡ q → o .store ≡ z → Effect (obeyed p o c) c x y q z
+obeyed-effect p o c n t a b e f =
     rw (then-just (obeyed-comes p o c n) t)
-    (record { acknowledged = refl; takes = refl; answers = ap (λ (l : List ℕ). 0x06 ∷ l) a; prints = b; becomes = e })
+    (record { acknowledged = refl; takes = refl; answers = ap (λ (l : List ℕ). 0x06 ∷ l) a; prints = b; becomes = e; stores = f })
 
-handled-effect : (p : Printer) (s : List ℕ) (r : Received) → Sound s r → passes p s r ≡ true → HasEffect p s r (handled p s r)
-handled-effect p s Partial h e = never e
-handled-effect p s (Refused k c) h e = never e
-handled-effect p s (Misfit k i n c) h e = never e
-handled-effect p s Enquiry h e = obeyed-effect p (enquire p) 1 refl refl refl refl refl
-handled-effect p s (Update n c) h e =
+handled-effect : (p : Printer) (store s : List ℕ) (r : Received) → Sound s r → passes p store s r ≡ true → HasEffect p store s r (handled p store s r)
+handled-effect p store s Partial h e = never e
+handled-effect p store s (Refused k c) h e = never e
+handled-effect p store s (Misfit k i n c) h e = never e
+handled-effect p store s Enquiry h e = obeyed-effect p (enquire p) 1 refl refl refl refl refl refl
+handled-effect p store s (Update n c) h e =
     let text = take n (drop 1 s) in
     let d = update-does p text in
-    obeyed-effect p (update-fields p text) c (update-numbered p text) e (d .1) (d .2) (d .0)
-handled-effect p s (Frame i n c) h e =
+    obeyed-effect p (update-fields p text) c (update-numbered p text) e (d .1) (d .2) (d .0) (update-stores p text)
+handled-effect p store s (Frame i n c) h e =
     let d = take n (drop 3 s) in
-    let x = frame-does p i n d h in
-    obeyed-effect p (order p i d) c (orders-numbered p i d) e (x .frame) (x .strips) (x .after)
+    let x = frame-does p store i n d h in
+    obeyed-effect p (order p store i d) c (orders-numbered p store i d) e (x .frame) (x .strips) (x .after) (x .stores)
 
 -- ---- In a valid state, with buffers of the stated size.
-pub valid-handled : (m s : List ℕ) → valid-state m ≡ true → outcome m (full s) ≡ handled (printer-of m) s (received s)
+pub valid-handled : (m store s : List ℕ) → valid-state m ≡ true → valid-store store ≡ true → outcome m (full store s) ≡ handled (printer-of m) store s (received s)
 unfolding outcome
-valid-handled m s v = rw v
+valid-handled m store s v w = rw (v, w)
 
 pub acknowledged-exactly : AcknowledgedExactly
-acknowledged-exactly m s v = rw (valid-handled m s v) (handled-exactly (printer-of m) s (received s) (sound s))
+acknowledged-exactly m store s v w = rw (valid-handled m store s v w) (handled-exactly (printer-of m) store s (received s) (sound s))
 
 pub exact-effect : ExactEffect
-exact-effect m s v e = rw (valid-handled m s v) (handled-effect (printer-of m) s (received s) (sound s) e)
+exact-effect m store s v w e = rw (valid-handled m store s v w) (handled-effect (printer-of m) store s (received s) (sound s) e)
 
 pub effect-kept : EffectKept
 effect-kept m h e = rw (eq-eqb (outcome m h .number) 0 e)

@@ -29,7 +29,8 @@ use Rattle.printer.specs.Jet.{Jet, has-message, message}
 use Rattle.printer.specs.State.{Printer, jet-at, with-jet, printer-of, valid, valid-state}
 use Rattle.printer.specs.Order.{Order, given, jet-number}
 use Rattle.printer.specs.Change.{address-in, edited-jet, positions, updated-jet, first-of-head, second-of-head, edit-message, update-fields, updated-head}
-use Rattle.printer.specs.Receive.{Outcome, outcome, obeyed, done, order}
+use Rattle.printer.specs.Messages.{valid-store}
+use Rattle.printer.specs.Receive.{Outcome, outcome, obeyed, done, printer-order, order}
 use Rattle.printer.specs.OrderLaws.{numbered}
 use Rattle.printer.specs.Demands.{full, SameButMessage, letters, Edited, EditsOnlyAddressed, Updated, UpdatesOnlyFields}
 use Rattle.printer.proofs.PrintLaws.{content-good, none-empty}
@@ -51,10 +52,10 @@ obeyed-accepted p o consumed n z = go (all (o .tests)) refl
         absurd (omega arith)
 
 -- So what is true of the state behind an order whose tests hold is true of what is left, where what is handed in was obeyed and accepted.
-accepted-leaves : (P : Printer → Type 0) (m s : List ℕ) (o : Order) (consumed : ℕ) → numbered (o .tests) ≡ true
-    → outcome m (full s) ≡ obeyed (printer-of m) o consumed → outcome m (full s) .number ≡ 0 → (all (o .tests) ≡ true → P (o .after))
-    → P (outcome m (full s) .printer)
-accepted-leaves P m s o consumed n e z f =
+accepted-leaves : (P : Printer → Type 0) (m store s : List ℕ) (o : Order) (consumed : ℕ) → numbered (o .tests) ≡ true
+    → outcome m (full store s) ≡ obeyed (printer-of m) o consumed → outcome m (full store s) .number ≡ 0 → (all (o .tests) ≡ true → P (o .after))
+    → P (outcome m (full store s) .printer)
+accepted-leaves P m store s o consumed n e z f =
     let a = obeyed-accepted (printer-of m) o consumed n (rw e at z) in
     rw (e, a .1) (f (a .0))
 
@@ -143,20 +144,20 @@ edit-edits p d four v x =
     }
 
 -- What is handed in does what the rule of 42h does.
-edit-heard : (m s : List ℕ) (n consumed : ℕ) → valid-state m ≡ true → received s ≡ Frame 0x42 n consumed
-    → outcome m (full s) ≡ obeyed (printer-of m) (edit-message (printer-of m) (take n (drop 3 s))) consumed
-unfolding outcome order
-edit-heard m s n consumed v e = rw (v, e)
+edit-heard : (m store s : List ℕ) (n consumed : ℕ) → valid-state m ≡ true → valid-store store ≡ true → received s ≡ Frame 0x42 n consumed
+    → outcome m (full store s) ≡ obeyed (printer-of m) (edit-message (printer-of m) (take n (drop 3 s))) consumed
+unfolding outcome order printer-order
+edit-heard m store s n consumed v w e = rw (v, w, e)
 
 edit-numbered : (p : Printer) (d : List ℕ) → numbered (edit-message p d .tests) ≡ true
 unfolding edit-message
 edit-numbered p d = refl
 
 pub edits-only-addressed : EditsOnlyAddressed
-edits-only-addressed m s n consumed v e z =
+edits-only-addressed m store s n consumed v w e z =
     let p = printer-of m in
     let d = take n (drop 3 s) in
-    accepted-leaves (λ (q : Printer). Edited p q d) m s (edit-message p d) consumed (edit-numbered p d) (edit-heard m s n consumed v e) z
+    accepted-leaves (λ (q : Printer). Edited p q d) m store s (edit-message p d) consumed (edit-numbered p d) (edit-heard m store s n consumed v w e) z
     (λ t. edit-edits p d (four-jets m) (valid-printer m v) (edit-tells p d t))
 
 -- ---- An update.
@@ -236,18 +237,18 @@ update-updates p text four v c =
     Elsewhere j k = (i : ℕ) → is-field-position (getD (marks start (message j)) i Structure) ≡ false → getD (message k) i 0 ≡ getD (message j) i 0
 
 -- What is handed in does what the rule of an update does.
-update-heard : (m s : List ℕ) (n consumed : ℕ) → valid-state m ≡ true → received s ≡ Update n consumed
-    → outcome m (full s) ≡ obeyed (printer-of m) (update-fields (printer-of m) (take n (drop 1 s))) consumed
+update-heard : (m store s : List ℕ) (n consumed : ℕ) → valid-state m ≡ true → valid-store store ≡ true → received s ≡ Update n consumed
+    → outcome m (full store s) ≡ obeyed (printer-of m) (update-fields (printer-of m) (take n (drop 1 s))) consumed
 unfolding outcome
-update-heard m s n consumed v e = rw (v, e)
+update-heard m store s n consumed v w e = rw (v, w, e)
 
 pub update-numbered : (p : Printer) (text : List ℕ) → numbered (update-fields p text .tests) ≡ true
 unfolding update-fields
 update-numbered p text = refl
 
 pub updates-only-fields : UpdatesOnlyFields
-updates-only-fields m s n consumed v e z =
+updates-only-fields m store s n consumed v w e z =
     let p = printer-of m in
     let text = take n (drop 1 s) in
-    accepted-leaves (λ (q : Printer). Updated p q text) m s (update-fields p text) consumed (update-numbered p text) (update-heard m s n consumed v e) z
+    accepted-leaves (λ (q : Printer). Updated p q text) m store s (update-fields p text) consumed (update-numbered p text) (update-heard m store s n consumed v w e) z
     (λ t. update-updates p text (four-jets m) (valid-printer m v) (update-tells p text t))

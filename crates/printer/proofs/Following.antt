@@ -1,4 +1,4 @@
--- Why a jet holds the last whole message accepted for it, but for its characters: 0Ah and 0Ch put a content on their jet alone, an edit and
+-- Why a jet holds the last whole message accepted for it, but for its characters: 0Ah, 0Ch and 40h put a content on their jet alone, an edit and
 -- an update change characters at character positions, which leaves the outline, and nothing else touches a message.
 use Prim.Native.Nat.{ℕ, _≤_}
 use mathlib.Core.Bool.{Bool, true, false}
@@ -9,9 +9,8 @@ use borrow.Author.Tests.{eqb-true, eq-eqb, ne-eqb}
 use lib.Dec.{eqb}
 use lib.ListN.{length, drop}
 use Rattle.frame.specs.Ground.{pick, all}
-use Rattle.frame.proofs.Ground.{never}
 use Rattle.content.specs.Byte.{all-characters}
-use Rattle.content.specs.Content.{is-content, verdict}
+use Rattle.content.specs.Content.{is-content}
 use Rattle.content.specs.Machine.{start}
 use Rattle.content.specs.Edit.{replaced}
 use Rattle.content.specs.Update.{laid}
@@ -27,12 +26,14 @@ use Rattle.printer.specs.Change.{address-in, updated-jet, set-message, s
 use Rattle.printer.specs.Request.{ask-counter, ask-message, ask-table, ask-clock}
 use Rattle.printer.specs.Print.{print, counted-jets}
 use Rattle.printer.specs.PrintLaws.{SameButCount}
-use Rattle.printer.specs.Receive.{order}
+use Rattle.printer.specs.Messages.{body-content, select-message, selected-body, store-message, valid-store}
+use Rattle.printer.specs.Receive.{printer-order, order}
 use Rattle.printer.specs.Demands.{after, Brought, nothing, whole, brought-by, newer, Held}
 use Rattle.printer.proofs.Valid.{on-row}
 use Rattle.printer.proofs.StateLaws.{message-of}
 use Rattle.printer.proofs.PrintLaws.{counted-keeps, content-good}
-use Rattle.printer.proofs.OrderLaws.{order-case, message-tells, parameters-tell, both-tell, edit-tells, update-tells}
+use Rattle.printer.proofs.OrderLaws.{printer-order-case, order-case, message-tells, parameters-tell, both-tell, edit-tells, select-tells, update-tells}
+use Rattle.printer.proofs.Bodies.{content-there}
 use Rattle.printer.proofs.Editing.{put-jet, head-each}
 use Rattle.printer.proofs.Written.{written}
 use Rattle.printer.proofs.Leading.{Leads, stays, orders, updates, sets}
@@ -43,10 +44,8 @@ pub data Follows : List ℕ → List ℕ → Type 0 where
   none : Follows [] []
   same : {m last : List ℕ} → is-content m ≡ true → is-content last ≡ true → outline (tree-of m) ≡ outline (tree-of last) → Follows m last
 
--- No content is empty.
 pub content-some : is-content [] ≡ true → ⊥
-unfolding is-content verdict
-content-some e = never e
+content-some e = absurd (omega (arith, content-there [] e))
 
 pub held-none : {m last : List ℕ} → Follows m last → m ≡ [] → last ≡ []
 held-none none e = refl
@@ -97,16 +96,16 @@ module _ (p : Printer) (four : length (p .jets) ≡ 4) (jet : ℕ) (k : 1 ≤ je
       (λ q. f (subst (λ (x : ℕ). Follows (message (jet-at p x)) last) (sym q) held))
       (λ q. held)
 
-  -- Only 0Ah and 0Ch bring a whole message.
-  brings-nothing : (i : ℕ) (d : List ℕ) → eqb i 0x0A ≡ false → eqb i 0x0C ≡ false → brought-by jet i d ≡ nothing
-  brings-nothing i d a c = rw (a, c) (pick-same (eqb (jet-number d) jet))
+  -- Only 0Ah, 0Ch and 40h bring a whole message.
+  brings-nothing : (store : List ℕ) (i : ℕ) (d : List ℕ) → eqb i 0x0A ≡ false → eqb i 0x0C ≡ false → eqb i 0x40 ≡ false → brought-by jet store i d ≡ nothing
+  brings-nothing store i d a c s = rw (a, c, s) (pick-same (eqb (jet-number d) jet))
     where
       pick-same : (t : Bool) → pick t nothing nothing ≡ nothing
       pick-same true = refl
       pick-same false = refl
 
-  other : (i : ℕ) (d : List ℕ) (n : ℕ) → eqb n 0x0A ≡ false → eqb n 0x0C ≡ false → eqb i n ≡ true → brought-by jet i d ≡ nothing
-  other i d n a c e = brings-nothing i d (rw (eqb-true i n e) a) (rw (eqb-true i n e) c)
+  other : (store : List ℕ) (i : ℕ) (d : List ℕ) (n : ℕ) → eqb n 0x0A ≡ false → eqb n 0x0C ≡ false → eqb n 0x40 ≡ false → eqb i n ≡ true → brought-by jet store i d ≡ nothing
+  other store i d n a c s e = brings-nothing store i d (rw (eqb-true i n e) a) (rw (eqb-true i n e) c) (rw (eqb-true i n e) s)
 
   module _ (d : List ℕ) where
     message-tracks : all (set-message p d .tests) ≡ true → Tracks (set-message p d .after) (pick (eqb (jet-number d) jet) (whole (drop 1 d)) nothing)
@@ -125,6 +124,14 @@ module _ (p : Printer) (four : length (p .jets) ≡ 4) (jet : ℕ) (k : 1 ≤ je
         let x = both-tell p d t in
         whole-put (jet-number d) _ (drop 38 d) (x .there) (x .content) (message-of (jet-in p d) (drop 38 d))
 
+    select-tracks : (store : List ℕ) → valid-store store ≡ true → all (select-message p store d .tests) ≡ true
+        → Tracks (select-message p store d .after) (pick (eqb (jet-number d) jet) (whole (body-content (selected-body store d))) nothing)
+    unfolding select-message
+    select-tracks store w t =
+        let x = select-tells p store d w t in
+        let c = body-content (selected-body store d) in
+        whole-put (jet-number d) _ c (x .there) (x .good .content) (message-of (jet-in p d) c)
+
     edit-tracks : all (edit-message p d .tests) ≡ true → Tracks (edit-message p d .after) nothing
     unfolding edit-message
     edit-tracks t =
@@ -138,19 +145,27 @@ module _ (p : Printer) (four : length (p .jets) ≡ 4) (jet : ℕ) (k : 1 ≤ je
     unfolding Tracks
     print-tracks = rw (counted-message p jet) held
 
-  order-tracks : (i : ℕ) (d : List ℕ) → all (order p i d .tests) ≡ true → Tracks (order p i d .after) (brought-by jet i d)
+  printer-tracks : (store : List ℕ) (i : ℕ) (d : List ℕ) → eqb i 0x40 ≡ false → all (printer-order p i d .tests) ≡ true → Tracks (printer-order p i d .after) (brought-by jet store i d)
   unfolding Tracks ask-counter ask-message ask-table ask-clock print
-  order-tracks i d =
-      order-case (λ (o : Order). all (o .tests) ≡ true → Tracks (o .after) (brought-by jet i d)) p i d
+  printer-tracks store i d s =
+      printer-order-case (λ (o : Order). all (o .tests) ≡ true → Tracks (o .after) (brought-by jet store i d)) p i d
       (λ e t. rw e (message-tracks d t))
-      (λ e t. rw (other i d 0x0B refl refl e) (parameters-track d t))
+      (λ e t. rw (other store i d 0x0B refl refl refl e) (parameters-track d t))
       (λ e t. rw (eqb-true i 0x0C e) (both-track d t))
-      (λ e _. rw (other i d 0x39 refl refl e) held)
-      (λ e t. rw (other i d 0x42 refl refl e) (edit-tracks d t))
-      (λ e _. rw (other i d 0x43 refl refl e) held)
-      (λ e _. rw (other i d 0x52 refl refl e) held)
-      (λ e _. rw (other i d 0x94 refl refl e) (print-tracks d))
-      (λ a c _. rw (brings-nothing i d a c) held)
+      (λ e _. rw (other store i d 0x39 refl refl refl e) held)
+      (λ e t. rw (other store i d 0x42 refl refl refl e) (edit-tracks d t))
+      (λ e _. rw (other store i d 0x43 refl refl refl e) held)
+      (λ e _. rw (other store i d 0x52 refl refl refl e) held)
+      (λ e _. rw (other store i d 0x94 refl refl refl e) (print-tracks d))
+      (λ a c _. rw (brings-nothing store i d a c s) held)
+
+  order-tracks : (store : List ℕ) (i : ℕ) (d : List ℕ) → valid-store store ≡ true → all (order p store i d .tests) ≡ true → Tracks (order p store i d .after) (brought-by jet store i d)
+  unfolding Tracks store-message
+  order-tracks store i d w =
+      order-case (λ (o : Order). all (o .tests) ≡ true → Tracks (o .after) (brought-by jet store i d)) p store i d
+      (λ e _. rw (other store i d 0x1C refl refl refl e) held)
+      (λ e t. rw (eqb-true i 0x40 e) (select-tracks d store w t))
+      (λ s. printer-tracks store i d s)
 
   updated-follows : (j : Jet) (text : List ℕ) → all-characters text ≡ true → Follows (message j) last → Follows (message (updated-jet j text)) last
   updated-follows j text c f =
@@ -165,7 +180,7 @@ module _ (p : Printer) (four : length (p .jets) ≡ 4) (jet : ℕ) (k : 1 ≤ je
   pub leads-follow : (q : Printer) (b : Brought) → Leads jet p q b → Follows (message (jet-at q jet)) (newer b last)
   unfolding Tracks
   leads-follow q b stays = held
-  leads-follow q b (orders i d f t) = order-tracks i d t
+  leads-follow q b (orders store i d w f t) = order-tracks store i d w t
   leads-follow q b (updates text t) = update-tracks text t
   leads-follow q b (sets c r) = held
 

@@ -19,6 +19,7 @@ use Rattle.calendar.specs.Clock.{is-real, tick}
 use Rattle.printer.specs.State.{Printer, with-clock, valid, valid-state, printer-of, bytes-of}
 use Rattle.printer.specs.Order.{Order, given, left}
 use Rattle.printer.specs.Change.{update-fields}
+use Rattle.printer.specs.Messages.{valid-store}
 use Rattle.printer.specs.Receive.{Handed, Outcome, outcome, handled, kept, obeyed, refusal, enquire, order, answer-size, strips-size}
 use Rattle.printer.specs.Call.{set-clock, tick-clock}
 use Rattle.printer.specs.OrderLaws.{numbered}
@@ -34,7 +35,8 @@ use Rattle.printer.proofs.Rooms.{Rooms, SizeFits, update-rooms, order-r
 -- What an accepted call leads to, and the whole message that it brings a jet.
 pub data Leads (jet : ℕ) (p : Printer) : Printer → Brought → Type 0 where
   stays : Leads jet p p nothing
-  orders : (i : ℕ) (d : List ℕ) → SizeFits i d → all (order p i d .tests) ≡ true → Leads jet p (order p i d .after) (brought-by jet i d)
+  orders : (store : List ℕ) (i : ℕ) (d : List ℕ) → valid-store store ≡ true → SizeFits i d → all (order p store i d .tests) ≡ true
+      → Leads jet p (order p store i d .after) (brought-by jet store i d)
   updates : (text : List ℕ) → all (update-fields p text .tests) ≡ true → Leads jet p (update-fields p text .after) nothing
   sets : (c : Clock) → is-real c ≡ true → Leads jet p (with-clock p c) nothing
 
@@ -58,29 +60,30 @@ module _ (jet : ℕ) (m : List ℕ) (Q : List ℕ → Brought → Type 0) (same 
           let g : 8 ≤ given (o .tests) = given-exactly (o .tests) n .1 e in
           subst (Gives b) (sym (obeyed-refused (printer-of m) o consumed e)) (refused-gives (given (o .tests)) consumed b (omega arith))
 
-  handled-gives : (s : List ℕ) (r : Received) → received s ≡ r → Sound s r → Gives (brought-in jet s r) (handled (printer-of m) s r)
-  handled-gives s Partial e h = same
-  handled-gives s (Refused number consumed) e h = refused-gives number consumed nothing h
-  handled-gives s (Misfit number i n consumed) e h = refused-gives number consumed nothing h
-  handled-gives s Enquiry e h = obeyed-gives (enquire (printer-of m)) 1 nothing refl (λ _. leads _ _ stays)
-  handled-gives s (Update n consumed) e h =
+  handled-gives : (store s : List ℕ) (r : Received) → valid-store store ≡ true → received s ≡ r → Sound s r → Gives (brought-in jet store s r) (handled (printer-of m) store s r)
+  handled-gives store s Partial w e h = same
+  handled-gives store s (Refused number consumed) w e h = refused-gives number consumed nothing h
+  handled-gives store s (Misfit number i n consumed) w e h = refused-gives number consumed nothing h
+  handled-gives store s Enquiry w e h = obeyed-gives (enquire (printer-of m)) 1 nothing refl (λ _. leads _ _ stays)
+  handled-gives store s (Update n consumed) w e h =
       let text = take n (drop 1 s) in
       obeyed-gives (update-fields (printer-of m) text) consumed nothing (update-numbered (printer-of m) text) (λ t. leads _ _ (updates text t))
-  handled-gives s (Frame i n consumed) e h =
+  handled-gives store s (Frame i n consumed) w e h =
       let d = take n (drop 3 s) in
       let long : length d ≡ n = length-take-le n (drop 3 s) (simp length-drop (omega (arith, frame-inside s e))) in
-      obeyed-gives (order (printer-of m) i d) consumed (brought-by jet i d) (orders-numbered (printer-of m) i d)
-      (λ t. leads _ _ (orders i d (rw long h) t))
+      obeyed-gives (order (printer-of m) store i d) consumed (brought-by jet store i d) (orders-numbered (printer-of m) store i d)
+      (λ t. leads _ _ (orders store i d w (rw long h) t))
 
-  handed-gives : (h : Handed) → Gives (brought-in jet (h .bytes) (received (h .bytes))) (outcome m h)
+  handed-gives : (h : Handed) → Gives (brought-in jet (h .store) (h .bytes) (received (h .bytes))) (outcome m h)
   unfolding outcome
   handed-gives h =
       let s = h .bytes in
-      let P = Gives (brought-in jet s (received s)) in
+      let P = Gives (brought-in jet (h .store) s (received s)) in
       unless-tells P (valid-state m) _ _ (λ _. same) (λ _.
+      unless-tells P (valid-store (h .store)) _ _ (λ _. same) (λ w.
       unless-tells P (leb answer-size (h .answer-room)) _ _ (λ _. same) (λ _.
       unless-tells P (leb strips-size (h .strip-room)) _ _ (λ _. same) (λ _.
-      handled-gives s (received s) refl (sound s))))
+      handled-gives (h .store) s (received s) w refl (sound s)))))
 
   clock-gives : (c : Clock) → Q (left (set-clock m c) m) nothing
   unfolding set-clock
@@ -106,24 +109,24 @@ module _ (jet : ℕ) (m : List ℕ) (Q : List ℕ → Brought → Type 0) (same 
 -- ---- What it leads to is valid and of the same type, and has the same rooms.
 pub leads-valid : {jet : ℕ} {p q : Printer} {b : Brought} → valid p ≡ true → length (p .jets) ≡ 4 → Leads jet p q b → valid q ≡ true
 leads-valid v four stays = v
-leads-valid {p = p} v four (orders i d f t) = order-keeps p i d four .stays-valid v t
+leads-valid {p = p} v four (orders store i d w f t) = order-keeps p store i d four w .stays-valid v t
 leads-valid {p = p} v four (updates text t) = update-keeps p text four .stays-valid v t
 leads-valid {p = p} v four (sets c r) = clock-valid p c v r
 
 pub leads-model : {jet : ℕ} {p q : Printer} {b : Brought} → length (p .jets) ≡ 4 → Leads jet p q b → q .model ≡ p .model
 leads-model four stays = refl
-leads-model {p = p} four (orders i d f t) = order-keeps p i d four .model
+leads-model {p = p} four (orders store i d w f t) = order-keeps p store i d four w .model
 leads-model {p = p} four (updates text t) = update-keeps p text four .model
 leads-model four (sets c r) = refl
 
 pub leads-four : {jet : ℕ} {p q : Printer} {b : Brought} → length (p .jets) ≡ 4 → Leads jet p q b → length (q .jets) ≡ 4
 leads-four four stays = four
-leads-four {p = p} four (orders i d f t) = order-keeps p i d four .as-many ∙ four
+leads-four {p = p} four (orders store i d w f t) = order-keeps p store i d four w .as-many ∙ four
 leads-four {p = p} four (updates text t) = update-keeps p text four .as-many ∙ four
 leads-four four (sets c r) = four
 
 pub leads-rooms : {jet : ℕ} {p q : Printer} {b : Brought} → valid p ≡ true → Rooms p → Leads jet p q b → Rooms q
 leads-rooms v r stays = r
-leads-rooms {p = p} v r (orders i d f t) = order-rooms p i d f v r t
+leads-rooms {p = p} v r (orders store i d w f t) = order-rooms p i d f v r store w t
 leads-rooms {p = p} v r (updates text t) = update-rooms p text r
 leads-rooms v r (sets c e) = r

@@ -10,24 +10,26 @@ pub mod Valid
 pub mod Orders
 pub mod Said
 pub mod Prints
--- The laws, each file those of the statements of the same name; `Rows` has what they share.
+-- The laws, each file those of the statements of the same name; `Rows` has what they share, `Bodies` what a well-formed store tells.
 pub mod CounterLaws
 pub mod BytesLaws
 pub mod Rows
 pub mod StateLaws
 pub mod PrintLaws
+pub mod Bodies
 pub mod OrderLaws
 pub mod Outcomes
 pub mod NumberLaws
 pub mod OutcomeLaws
 pub mod Unique
 pub mod Samples
--- The demands: refusals, what is accepted, what was built, edits and updates, prints; then every state that calls lead to, its room, its
+-- The demands: refusals, what is accepted, what was built, edits and updates, the store, prints; then every state that calls lead to, its room, its
 -- bytes and its messages; and all of them on one page.
 pub mod Refusing
 pub mod Accepting
 pub mod Building
 pub mod Editing
+pub mod Storing
 pub mod Printing
 pub mod Rooms
 pub mod Written

@@ -15,26 +15,29 @@ use Rattle.frame.proofs.Numbers.{first-given}
 use Rattle.frame.proofs.NumberLaws.{in-order as frame-order, received-first}
 use Rattle.printer.specs.Order.{Order}
 use Rattle.printer.specs.Change.{set-message, set-parameters, set-both, edit-message, update-fields}
+use Rattle.printer.specs.Messages.{store-message, select-message}
 use Rattle.printer.specs.Request.{ask-counter, ask-message, ask-table, ask-clock}
 use Rattle.printer.specs.Print.{print}
 use Rattle.printer.specs.Call.{set-clock, tick-clock}
 use Rattle.printer.specs.Receive.{Handed, Outcome, done, handled, handing-tests, obeyed, order, outcome, refusal, silent}
 use Rattle.printer.specs.State.{Printer, printer-of}
 use Rattle.printer.specs.NumberLaws.{CallsGiveFirst, InOrder, asked-tests, outcome-tests}
-use Rattle.printer.proofs.OrderLaws.{order-case}
+use Rattle.printer.proofs.OrderLaws.{printer-order-case, order-case}
 
 pub numbers-in-order : InOrder
-unfolding set-message set-parameters set-both edit-message update-fields ask-counter ask-message ask-table ask-clock print set-clock tick-clock
+unfolding store-message select-message set-message set-parameters set-both edit-message update-fields ask-counter ask-message ask-table ask-clock print set-clock tick-clock
 numbers-in-order =
     record {
       frames =
-          λ p i d. order-case (λ (o : Order). in-order (o .tests) ≡ true) p i d
-          (λ _. refl) (λ _. refl) (λ _. refl) (λ _. refl) (λ _. refl) (λ _. refl) (λ _. refl) (λ _. refl) (λ _ _. refl);
+          λ p store i d. order-case (λ (o : Order). in-order (o .tests) ≡ true) p store i d (λ _. refl) (λ _. refl) (λ _.
+          printer-order-case (λ (o : Order). in-order (o .tests) ≡ true) p i d
+          (λ _. refl) (λ _. refl) (λ _. refl) (λ _. refl) (λ _. refl) (λ _. refl) (λ _. refl) (λ _. refl) (λ _ _. refl));
       updates = λ p text. refl;
       handing = λ m h. refl;
       fresh = λ m model clock. refl;
       clock = λ m clock. refl;
       tick = λ m. refl;
+      show = λ store n. refl;
     }
 
 -- ---- What is handed in.
@@ -53,24 +56,25 @@ unfolding obeyed
 obeyed-number p o consumed = checked-map (λ (x : Outcome). x .number) (o .tests) (λ (r : Refusal). refusal p (r .number) consumed) (done o consumed)
 
 -- So what the box says of what was received is the receiver's number, or that of the first test of what is asked that fails.
-handled-number : (p : Printer) (s : List ℕ) (r : Received) → number r ≡ first-failing (receive-tests s)
-    → handled p s r .number ≡ first-failing (receive-tests s ++ asked-tests p s r)
+handled-number : (p : Printer) (store s : List ℕ) (r : Received) → number r ≡ first-failing (receive-tests s)
+    → handled p store s r .number ≡ first-failing (receive-tests s ++ asked-tests p store s r)
 unfolding obeyed
-handled-number p s Partial e = e ∙ nothing-asked s
-handled-number p s (Refused k c) e = e ∙ nothing-asked s
-handled-number p s (Misfit k i n c) e = e ∙ nothing-asked s
-handled-number p s Enquiry e = e ∙ nothing-asked s
-handled-number p s (Update n c) e = obeyed-number p (update-fields p (take n (drop 1 s))) c ∙ then-asked s _ e
-handled-number p s (Frame i n c) e = obeyed-number p (order p i (take n (drop 3 s))) c ∙ then-asked s _ e
+handled-number p store s Partial e = e ∙ nothing-asked s
+handled-number p store s (Refused k c) e = e ∙ nothing-asked s
+handled-number p store s (Misfit k i n c) e = e ∙ nothing-asked s
+handled-number p store s Enquiry e = e ∙ nothing-asked s
+handled-number p store s (Update n c) e = obeyed-number p (update-fields p (take n (drop 1 s))) c ∙ then-asked s _ e
+handled-number p store s (Frame i n c) e = obeyed-number p (order p store i (take n (drop 3 s))) c ∙ then-asked s _ e
 
 outcome-number : (m : List ℕ) (h : Handed) → outcome m h .number ≡ first-failing (outcome-tests m h)
 unfolding outcome
 outcome-number m h =
     let p = printer-of m in
+    let store = h .store in
     let s = h .bytes in
-    checked-map (λ (o : Outcome). o .number) (handing-tests m h) (λ (r : Refusal). silent p (r .number)) (handled p s (received s))
-    ∙ ap (checked (handing-tests m h) (λ (r : Refusal). r .number)) (handled-number p s (received s) (received-first s))
-    ∙ sym (checked-append (handing-tests m h) (receive-tests s ++ asked-tests p s (received s)) (λ (r : Refusal). r .number) 0)
+    checked-map (λ (o : Outcome). o .number) (handing-tests m h) (λ (r : Refusal). silent p (r .number)) (handled p store s (received s))
+    ∙ ap (checked (handing-tests m h) (λ (r : Refusal). r .number)) (handled-number p store s (received s) (received-first s))
+    ∙ sym (checked-append (handing-tests m h) (receive-tests s ++ asked-tests p store s (received s)) (λ (r : Refusal). r .number) 0)
 
 -- All these tests are in order, by computation, whether a frame was received or not and whatever it asks.
 abbrev Ordered : List ℕ → Handed → List Test → Bool → Type 0
@@ -87,8 +91,8 @@ ordered m h o p q = go (is-frame (h .bytes))
     go true = p
     go false = q
 
-asked-ordered : (m : List ℕ) (h : Handed) (r : Received) → Ordered m h (asked-tests (printer-of m) (h .bytes) r) (is-frame (h .bytes))
-unfolding set-message set-parameters set-both edit-message update-fields ask-counter ask-message ask-table ask-clock print
+asked-ordered : (m : List ℕ) (h : Handed) (r : Received) → Ordered m h (asked-tests (printer-of m) (h .store) (h .bytes) r) (is-frame (h .bytes))
+unfolding store-message select-message set-message set-parameters set-both edit-message update-fields ask-counter ask-message ask-table ask-clock print
 asked-ordered m h Partial = ordered m h [] refl refl
 asked-ordered m h (Refused k c) = ordered m h [] refl refl
 asked-ordered m h (Misfit k i n c) = ordered m h [] refl refl
@@ -97,7 +101,10 @@ asked-ordered m h (Update n c) = ordered m h (update-fields (printer-of m) (take
 asked-ordered m h (Frame i n c) =
     let p = printer-of m in
     let d = take n (drop 3 (h .bytes)) in
-    order-case (λ (o : Order). Ordered m h (o .tests) (is-frame (h .bytes))) p i d
+    order-case (λ (o : Order). Ordered m h (o .tests) (is-frame (h .bytes))) p (h .store) i d
+    (λ _. ordered m h (store-message p (h .store) d .tests) refl refl)
+    (λ _. ordered m h (select-message p (h .store) d .tests) refl refl)
+    (λ _. printer-order-case (λ (o : Order). Ordered m h (o .tests) (is-frame (h .bytes))) p i d
     (λ _. ordered m h (set-message p d .tests) refl refl)
     (λ _. ordered m h (set-parameters p d .tests) refl refl)
     (λ _. ordered m h (set-both p d .tests) refl refl)
@@ -106,7 +113,7 @@ asked-ordered m h (Frame i n c) =
     (λ _. ordered m h (ask-message p d .tests) refl refl)
     (λ _. ordered m h (ask-table p .tests) refl refl)
     (λ _. ordered m h (print p .tests) refl refl)
-    (λ _ _. ordered m h (ask-clock p .tests) refl refl)
+    (λ _ _. ordered m h (ask-clock p .tests) refl refl))
 
 pub calls-give-first : CallsGiveFirst
 calls-give-first =
@@ -115,4 +122,5 @@ calls-give-first =
       fresh = λ m model clock r m′ p. first-given _ r (numbers-in-order .fresh m model clock) (p .number);
       clock = λ m clock r m′ p. first-given _ r (numbers-in-order .clock m clock) (p .number);
       tick = λ m r m′ p. first-given _ r (numbers-in-order .tick m) (p .number);
+      show = λ store current n refused r p. first-given _ refused (numbers-in-order .show store n) (p .number);
     }

@@ -1,5 +1,6 @@
--- Why every order is refused at its first test that fails or done, and keeps a valid state valid: tests in a row come to what the first
--- that fails says, and each order puts a valid jet in the place of a valid one.
+-- Why every order is refused at its first test that fails or done, and keeps a valid state valid and a well-formed store well formed:
+-- tests in a row come to what the first that fails says, each order puts a valid jet in the place of a valid one, and only a good
+-- message goes into the store.
 use Prim.Native.Nat.{ℕ, zero, suc, _+_, _-_, _≤_}
 use mathlib.Core.Bool.{Bool, true, false}
 use mathlib.Core.List.{List, [], _∷_}
@@ -9,7 +10,7 @@ use borrow.Author.Tests.{leb-true, ltb-false}
 use lib.Dec.{eqb, leb, ltb}
 use lib.ListN.{length, drop, length-set}
 use Rattle.frame.specs.Ground.{Test, Refusal, both, checked, all}
-use Rattle.frame.proofs.Ground.{never, both-true, pick-case, checked-all, checked-refuses, length-each}
+use Rattle.frame.proofs.Ground.{never, both-true, true-both, pick-case, checked-all, checked-refuses, length-each}
 use Rattle.content.specs.Byte.{is-character, all-characters}
 use Rattle.content.specs.Content.{is-content}
 use Rattle.content.specs.Machine.{start}
@@ -20,15 +21,18 @@ use Rattle.content.proofs.ChangeLaws.{edit-stays-content, update-stays-content}
 use Rattle.printer.specs.Counter.{Counter}
 use Rattle.printer.specs.Jet.{Jet, has-jet, has-message, message, valid-jet, good-parameters, counted-jet}
 use Rattle.printer.specs.State.{Printer, jet-at, with-jet, valid}
-use Rattle.printer.specs.Order.{Order, given, jet-number, jet-in}
+use Rattle.library.specs.Store.{has-room, is-number}
+use Rattle.printer.specs.Order.{Order, unchanged, store-after, given, jet-number, jet-in}
 use Rattle.printer.specs.Change.{parameters-in, address-in, first-of-head, second-of-head, positions, updated-jet, updated-head, set-message, set-parameters, set-both, edit-message, update-fields}
+use Rattle.printer.specs.Messages.{body-content, body-parameters, good-body, is-there, select-message, selected-body, selected-number, store-message, stored-body, stored-number, valid-store}
 use Rattle.printer.specs.Request.{ask-counter, ask-message, ask-table, ask-clock}
 use Rattle.printer.specs.Print.{print}
-use Rattle.printer.specs.Receive.{obeyed, refusal, order}
-use Rattle.printer.specs.OrderLaws.{ObeyedDone, ObeyedRefused, numbered, OrdersNumbered, GivenExactly, Keeps, OrderKeeps, UpdateKeeps}
+use Rattle.printer.specs.Receive.{obeyed, refusal, printer-order, order}
+use Rattle.printer.specs.OrderLaws.{ObeyedDone, ObeyedRefused, numbered, OrdersNumbered, GivenExactly, Keeps, OrderKeeps, UpdateKeeps, OrderStores, UpdateStores}
 use Rattle.printer.proofs.Valid.{valid-at, absent-empty, jet-content, on-row}
 use Rattle.printer.proofs.StateLaws.{put-valid, with-jet-valid, message-stays, parameters-stay}
 use Rattle.printer.proofs.PrintLaws.{counted-valid}
+use Rattle.printer.proofs.Bodies.{GoodBody, found-good, stored-valid}
 
 -- ---- Tests in a row.
 -- Where one fails, the number that is given decides, whatever is made of it.
@@ -60,9 +64,9 @@ given-number (t ∷ tests) n e =
 pub given-exactly : GivenExactly
 given-exactly tests n = ((λ e. checked-all tests _ _ e), given-number tests n)
 
--- ---- The nine orders.
+-- ---- The orders: nine of the printer alone, and two that need the store.
 -- What holds of each of them holds of the one that an identifier leads to.
-pub order-case : (P : Order → Type 0) (p : Printer) (i : ℕ) (d : List ℕ)
+pub printer-order-case : (P : Order → Type 0) (p : Printer) (i : ℕ) (d : List ℕ)
     → (eqb i 0x0A ≡ true → P (set-message p d))
     → (eqb i 0x0B ≡ true → P (set-parameters p d))
     → (eqb i 0x0C ≡ true → P (set-both p d))
@@ -72,9 +76,9 @@ pub order-case : (P : Order → Type 0) (p : Printer) (i : ℕ) (d : List ℕ)
     → (eqb i 0x52 ≡ true → P (ask-table p))
     → (eqb i 0x94 ≡ true → P (print p))
     → (eqb i 0x0A ≡ false → eqb i 0x0C ≡ false → P (ask-clock p))
-    → P (order p i d)
-unfolding order
-order-case P p i d message parameters both counter edit text table prints clock =
+    → P (printer-order p i d)
+unfolding printer-order
+printer-order-case P p i d message parameters both counter edit text table prints clock =
     pick-case P (eqb i 0x0A) _ _ message (λ a.
     pick-case P (eqb i 0x0B) _ _ parameters (λ _.
     pick-case P (eqb i 0x0C) _ _ both (λ c.
@@ -84,10 +88,31 @@ order-case P p i d message parameters both counter edit text table prints clock 
     pick-case P (eqb i 0x52) _ _ table (λ _.
     pick-case P (eqb i 0x94) _ _ prints (λ _. clock a c))))))))
 
-pub orders-numbered : OrdersNumbered
+pub order-case : (P : Order → Type 0) (p : Printer) (store : List ℕ) (i : ℕ) (d : List ℕ)
+    → (eqb i 0x1C ≡ true → P (store-message p store d))
+    → (eqb i 0x40 ≡ true → P (select-message p store d))
+    → (eqb i 0x40 ≡ false → P (printer-order p i d))
+    → P (order p store i d)
+unfolding order
+order-case P p store i d stores selects printer =
+    pick-case P (eqb i 0x1C) _ _ stores (λ _. pick-case P (eqb i 0x40) _ _ selects printer)
+
+pub printer-numbered : (p : Printer) (i : ℕ) (d : List ℕ) → numbered (printer-order p i d .tests) ≡ true
 unfolding set-message set-parameters set-both ask-counter edit-message ask-message ask-table print ask-clock
-orders-numbered p i d =
-    order-case (λ (o : Order). numbered (o .tests) ≡ true) p i d
+printer-numbered p i d =
+    printer-order-case (λ (o : Order). numbered (o .tests) ≡ true) p i d
+    (λ _. refl) (λ _. refl) (λ _. refl) (λ _. refl) (λ _. refl) (λ _. refl) (λ _. refl) (λ _. refl) (λ _ _. refl)
+
+pub orders-numbered : OrdersNumbered
+unfolding store-message select-message
+orders-numbered p store i d =
+    order-case (λ (o : Order). numbered (o .tests) ≡ true) p store i d (λ _. refl) (λ _. refl) (λ _. printer-numbered p i d)
+
+-- The printer's own put nothing into the store.
+pub printer-unchanged : (p : Printer) (i : ℕ) (d : List ℕ) → printer-order p i d .store ≡ unchanged
+unfolding set-message set-parameters set-both ask-counter edit-message ask-message ask-table print ask-clock
+printer-unchanged p i d =
+    printer-order-case (λ (o : Order). o .store ≡ unchanged) p i d
     (λ _. refl) (λ _. refl) (λ _. refl) (λ _. refl) (λ _. refl) (λ _. refl) (λ _. refl) (λ _. refl) (λ _ _. refl)
 
 -- ---- What the tests of an order that changes a jet come to, where all hold.
@@ -134,6 +159,30 @@ edit-tells p d t =
     let a = both-true (has-jet (p .model) (jet-number d)) _ t in
     let b = both-true (has-message (jet-in p d)) _ (a .1) in
     record { there = a .0; some = b .0; edits = checked-all (edit-tests (message (jet-in p d)) (address-in d) (drop 3 d)) refused Done (b .1) }
+
+pub record SelectTests (p : Printer) (store d : List ℕ) : Type 0 where
+  pub there : has-jet (p .model) (jet-number d) ≡ true
+  pub good : GoodBody (selected-body store d)
+
+pub select-tells : (p : Printer) (store d : List ℕ) → valid-store store ≡ true → all (select-message p store d .tests) ≡ true → SelectTests p store d
+unfolding select-message
+select-tells p store d v t =
+    let a = both-true (has-jet (p .model) (jet-number d)) _ t in
+    let b = both-true (is-there store (selected-number d)) true (a .1) .0 in
+    record { there = a .0; good = found-good store (selected-number d) v (both-true (is-number (selected-number d)) _ b .1) }
+
+pub record StoreTests (store d : List ℕ) : Type 0 where
+  pub number : is-number (stored-number d) ≡ true
+  pub good : good-body (stored-body d) ≡ true
+  pub room : has-room (stored-number d) (stored-body d) store ≡ true
+
+pub store-tells : (p : Printer) (store d : List ℕ) → all (store-message p store d .tests) ≡ true → StoreTests store d
+unfolding store-message good-body
+store-tells p store d t =
+    let a = both-true (is-number (stored-number d)) _ t in
+    let b = both-true (good-parameters (body-parameters (stored-body d))) _ (a .1) in
+    let c = both-true (is-content (body-content (stored-body d))) _ (b .1) in
+    record { number = a .0; good = true-both _ _ (b .0) (c .0); room = both-true (has-room (stored-number d) (stored-body d) store) true (c .1) .0 }
 
 -- ---- Valid states stay valid.
 -- An order that puts a valid jet in the place of one that the printer has.
@@ -193,14 +242,41 @@ print-keeps p =
 same-keeps : (p : Printer) (o : Order) → o .after ≡ p → Keeps p o
 same-keeps p o e = record { stays-valid = λ v _. rw e v; model = rw e; as-many = rw e }
 
-pub order-keeps : OrderKeeps
+select-keeps : (p : Printer) (store d : List ℕ) → valid-store store ≡ true → Keeps p (select-message p store d)
+unfolding select-message
+select-keeps p store d v =
+    put-keeps p (select-message p store d) (jet-number d) _ refl (λ t. select-tells p store d v t .there)
+    (λ t w.
+    let g = select-tells p store d v t .good in
+    parameters-stay _ (body-parameters (selected-body store d)) (message-stays (jet-in p d) (body-content (selected-body store d)) w (g .content)) (g .parameters))
+
+pub printer-keeps : (p : Printer) (i : ℕ) (d : List ℕ) → Keeps p (printer-order p i d)
 unfolding ask-counter ask-message ask-table ask-clock
-order-keeps p i d four =
-    order-case (Keeps p) p i d
+printer-keeps p i d =
+    printer-order-case (Keeps p) p i d
     (λ _. message-keeps p d) (λ _. parameters-keep p d) (λ _. both-keep p d)
     (λ _. same-keeps p (ask-counter p d) refl) (λ _. edit-keeps p d)
     (λ _. same-keeps p (ask-message p d) refl) (λ _. same-keeps p (ask-table p) refl) (λ _. print-keeps p)
     (λ _ _. same-keeps p (ask-clock p) refl)
+
+pub order-keeps : OrderKeeps
+unfolding store-message
+order-keeps p store i d four v =
+    order-case (Keeps p) p store i d
+    (λ _. same-keeps p (store-message p store d) refl) (λ _. select-keeps p store d v) (λ _. printer-keeps p i d)
+
+-- ---- A well-formed store stays well formed.
+pub order-stores : OrderStores
+unfolding store-message select-message
+order-stores p store i d v =
+    order-case (λ (o : Order). all (o .tests) ≡ true → valid-store (store-after (o .store) store) ≡ true) p store i d
+    (λ _ t. let x = store-tells p store d t in stored-valid store (stored-number d) (stored-body d) v (x .number) (x .good) (x .room))
+    (λ _ _. v)
+    (λ _ _. rw (printer-unchanged p i d) v)
+
+pub update-stores : UpdateStores
+unfolding update-fields
+update-stores p text = refl
 
 -- ---- An update.
 pub characters-behind : (n : ℕ) (text : List ℕ) → all-characters text ≡ true → all-characters (drop n text) ≡ true

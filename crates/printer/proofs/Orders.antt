@@ -7,17 +7,18 @@ use native.Mathlib.Omega.{arith}
 use borrow.Author.Tests.{not-true, not-false}
 use lib.ListN.{length, take, drop, length-append}
 use lib.Seq.{take-at, drop-at}
-use Rattle.frame.specs.Ground.{Test, test, all, over}
+use Rattle.frame.specs.Ground.{Refusal, Test, test, checked, all, over}
 use Rattle.frame.specs.Wire.{head-size}
 use Rattle.frame.specs.Build as build
 use Rattle.frame.specs.Build.{frame, Answers, Wraps}
 use Rattle.frame.specs.declared.build.Built.{Built}
-use Rattle.frame.proofs.Ground.{length-over, over-under}
+use Rattle.frame.proofs.Ground.{checked-all, length-over, over-under}
 use Rattle.frame.proofs.Told.{frame-length, answered-fits, wrap-fits}
 use Rattle.printer.specs.Jet.{Jet, jet-bytes}
 use Rattle.printer.specs.State.{bytes-of}
-use Rattle.printer.specs.Order.{Order, given, Obeys}
+use Rattle.printer.specs.Order.{Order, StoreChange, given, Obeys}
 use Rattle.printer.specs.Change.{BecomesJet}
+use Rattle.printer.specs.Messages.{ChangesStore}
 use Rattle.printer.specs.Answer.{Tells, Untold}
 use Rattle.printer.specs.declared.request.Told.{Told}
 
@@ -53,6 +54,14 @@ passes-all : {ts : List Test} → Passes ts → all ts ≡ true
 passes-all end = refl
 passes-all (holds e f) = rw e (passes-all f)
 
+-- What is made of the number, and of what is accepted.
+pub fails-checked : {A : Type 0} {ts : List Test} {n : ℕ} (refuse : ℕ → A) (accept : A) → Fails ts n → checked ts (λ (r : Refusal). refuse (r .number)) accept ≡ refuse n
+fails-checked refuse accept (here e) = rw e
+fails-checked refuse accept (past e f) = rw e (fails-checked refuse accept f)
+
+pub passes-checked : {A : Type 0} {ts : List Test} (refuse : Refusal → A) (accept : A) → Passes ts → checked ts refuse accept ≡ accept
+passes-checked {ts = ts} refuse accept f = checked-all ts refuse accept (passes-all f)
+
 -- ---- An order on the state: refused it gives the number and leaves the bytes, obeyed it gives 0 and leaves those of the state behind it.
 pub refused : {o : Order} {m : List ℕ} {n : ℕ} → Fails (o .tests) n → Obeys o m n m
 refused f = record { number = fails-number f; state = rw (fails-all f) }
@@ -66,6 +75,10 @@ jet-refused f = record { number = fails-number f; jet = rw (fails-all f) }
 
 pub jet-becomes : {ts : List Test} {j : Jet} {b b′ : List ℕ} → Passes ts → b′ ≡ jet-bytes j → BecomesJet ts j b 0 b′
 jet-becomes f e = record { number = passes-number f; jet = rw (passes-all f) e }
+
+-- And of the store's.
+pub store-refused : {ts : List Test} {c : StoreChange} {store : List ℕ} {n : ℕ} → Fails ts n → ChangesStore ts c store n store
+store-refused f = record { number = fails-number f; bytes = rw (fails-all f) }
 
 pub jet-behind : {t : Bool} {n : ℕ} {ts : List Test} {j : Jet} {b b′ : List ℕ} {r : ℕ} → t ≡ true → BecomesJet ts j b r b′ → BecomesJet (test t n ∷ ts) j b r b′
 jet-behind h e = record { number = rw h (e .number); jet = rw h (e .jet) }

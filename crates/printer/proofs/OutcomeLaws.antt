@@ -25,24 +25,25 @@ use Rattle.printer.specs.State.{Printer, empty-jet, jet-at, jets-of, val
 use Rattle.printer.specs.Order.{Order, jet-number}
 use Rattle.printer.specs.Answer.{ack}
 use Rattle.printer.specs.Change.{set-message, set-parameters, set-both, edit-message, update-fields}
+use Rattle.printer.specs.Messages.{valid-store, store-message, select-message}
 use Rattle.printer.specs.Request.{ask-counter, ask-message, ask-table, ask-clock}
 use Rattle.printer.specs.Print.{print}
 use Rattle.printer.specs.Receive.{Outcome, outcome, handled, obeyed, order, enquire, kept, refusal, done, answer-size, strips-size, Meets}
 use Rattle.printer.specs.OutcomeLaws.{Refuses, RefusalKeeps, ConsumesHandedIn, AcceptedAnswers, AnswerFits, total, Finds, LengthsTell}
 use Rattle.printer.specs.declared.answer.Answered.{Answered}
 use Rattle.printer.proofs.Outcomes.{Kind, silence, refused, accepted, outcome-kind}
-use Rattle.printer.proofs.OrderLaws.{order-case}
+use Rattle.printer.proofs.OrderLaws.{printer-order-case, order-case}
 use Rattle.printer.proofs.Valid.{valid-printer, valid-at, jet-short}
 
--- ---- A refusal keeps the state, and what is accepted is acknowledged.
+-- ---- A refusal keeps the state and the store, and what is accepted is acknowledged.
 stays : (m : List ℕ) (o : Outcome) → (o .number ≡ 0 → ⊥) → kept o m ≡ m
 stays m o z = rw (ne-eqb (o .number) 0 z)
 
 refuses : (m : List ℕ) {c : ℕ} {o : Outcome} → Kind (printer-of m) c o → (o .number ≡ 0 → ⊥) → Refuses m o
 refuses m {o = o} (silence n h g) z =
-    record { printer = refl; state = stays m o z; strips = refl; consumes-nothing = λ _. refl; answers-nothing = λ _. refl; answers-nack = λ e. absurd (omega arith) }
+    record { printer = refl; state = stays m o z; store = refl; strips = refl; consumes-nothing = λ _. refl; answers-nothing = λ _. refl; answers-nack = λ e. absurd (omega arith) }
 refuses m {o = o} (refused n h) z =
-    record { printer = refl; state = stays m o z; strips = refl; consumes-nothing = λ e. absurd (omega arith); answers-nothing = λ e. absurd (omega arith); answers-nack = λ _. refl }
+    record { printer = refl; state = stays m o z; store = refl; strips = refl; consumes-nothing = λ e. absurd (omega arith); answers-nothing = λ e. absurd (omega arith); answers-nack = λ _. refl }
 refuses m (accepted o) z = absurd (z refl)
 
 pub refusal-keeps : RefusalKeeps
@@ -116,13 +117,14 @@ clock-short : (p : Printer) → Short (ask-clock p)
 unfolding ask-clock
 clock-short p = told-short 0x9C (clock-text (p .clock)) (omega (arith, texts-long .0 (p .clock) .1))
 
-order-short : (m : List ℕ) (i : ℕ) (d : List ℕ) → valid-state m ≡ true → Short (order (printer-of m) i d)
-unfolding set-message set-parameters set-both edit-message print
-order-short m i d v =
+order-short : (m store : List ℕ) (i : ℕ) (d : List ℕ) → valid-state m ≡ true → Short (order (printer-of m) store i d)
+unfolding set-message set-parameters set-both edit-message print store-message select-message
+order-short m store i d v =
     let p : Printer = printer-of m in
-    order-case Short p i d
+    order-case Short p store i d (λ _. omega arith) (λ _. omega arith) (λ _.
+    printer-order-case Short p i d
     (λ _. omega arith) (λ _. omega arith) (λ _. omega arith) (λ _. counter-short p d) (λ _. omega arith) (λ _. message-short m d v)
-    (λ _. table-short p) (λ _. omega arith) (λ _ _. clock-short p)
+    (λ _. table-short p) (λ _. omega arith) (λ _ _. clock-short p))
 
 abbrev Fits : Outcome → Type 0
 Fits o = length (o .answer) ≤ answer-size
@@ -139,20 +141,21 @@ update-short : (p : Printer) (text : List ℕ) → Short (update-fields p text)
 unfolding update-fields
 update-short p text = omega arith
 
-handled-fits : (m s : List ℕ) (r : Received) → valid-state m ≡ true → Fits (handled (printer-of m) s r)
-handled-fits m s Partial v = omega arith
-handled-fits m s (Refused k c) v = omega arith
-handled-fits m s (Misfit k i n c) v = omega arith
-handled-fits m s Enquiry v = obeyed-fits (printer-of m) (enquire (printer-of m)) 1 (omega arith)
-handled-fits m s (Update n c) v = obeyed-fits (printer-of m) (update-fields (printer-of m) (take n (drop 1 s))) c (update-short (printer-of m) (take n (drop 1 s)))
-handled-fits m s (Frame i n c) v = obeyed-fits (printer-of m) (order (printer-of m) i (take n (drop 3 s))) c (order-short m i (take n (drop 3 s)) v)
+handled-fits : (m store s : List ℕ) (r : Received) → valid-state m ≡ true → Fits (handled (printer-of m) store s r)
+handled-fits m store s Partial v = omega arith
+handled-fits m store s (Refused k c) v = omega arith
+handled-fits m store s (Misfit k i n c) v = omega arith
+handled-fits m store s Enquiry v = obeyed-fits (printer-of m) (enquire (printer-of m)) 1 (omega arith)
+handled-fits m store s (Update n c) v = obeyed-fits (printer-of m) (update-fields (printer-of m) (take n (drop 1 s))) c (update-short (printer-of m) (take n (drop 1 s)))
+handled-fits m store s (Frame i n c) v = obeyed-fits (printer-of m) (order (printer-of m) store i (take n (drop 3 s))) c (order-short m store i (take n (drop 3 s)) v)
 
 pub answer-fits : AnswerFits
 unfolding outcome
 answer-fits m h =
     unless-tells Fits (valid-state m) _ _ (λ _. omega arith)
-    (λ v. unless-case Fits (leb answer-size (h .answer-room)) _ _ (omega arith)
-    (unless-case Fits (leb strips-size (h .strip-room)) _ _ (omega arith) (handled-fits m (h .bytes) (received (h .bytes)) v)))
+    (λ v. unless-case Fits (valid-store (h .store)) _ _ (omega arith)
+    (unless-case Fits (leb answer-size (h .answer-room)) _ _ (omega arith)
+    (unless-case Fits (leb strips-size (h .strip-room)) _ _ (omega arith) (handled-fits m (h .store) (h .bytes) (received (h .bytes)) v))))
 
 -- ---- What is laid over a buffer is found there again: the answer at the front, and each strip behind those before it.
 strip-found : (xs : List (List ℕ)) (rest : List ℕ) (i : ℕ)
@@ -175,4 +178,4 @@ found {o} {answer = answer} {strips = strips} x =
     })
 
 pub lengths-tell : LengthsTell
-lengths-tell m s answer strips r m′ answer′ strips′ h = found (h .meets)
+lengths-tell m store s answer strips r m′ store′ answer′ strips′ h = found (h .fulfils .meets)

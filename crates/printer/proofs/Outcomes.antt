@@ -17,6 +17,7 @@ use Rattle.frame.proofs.Heard.{Sound, sound}
 use Rattle.printer.specs.State.{Printer, valid-state, printer-of}
 use Rattle.printer.specs.Order.{Order}
 use Rattle.printer.specs.Change.{update-fields}
+use Rattle.printer.specs.Messages.{valid-store}
 use Rattle.printer.specs.Receive.{Handed, Outcome, outcome, handled, obeyed, order, enquire, silent, refusal, done, answer-size, strips-size}
 use Rattle.printer.specs.OrderLaws.{numbered}
 use Rattle.printer.proofs.OrderLaws.{orders-numbered}
@@ -43,19 +44,20 @@ pub update-numbered : (p : Printer) (text : List ℕ) → numbered (update-field
 unfolding update-fields
 update-numbered p text = refl
 
-handled-kind : (p : Printer) (s : List ℕ) (r : Received) → Sound s r → Kind p (consumed r) (handled p s r)
-handled-kind p s Partial h = silence 3 (omega arith) (omega arith)
-handled-kind p s (Refused k c) h = refused k h
-handled-kind p s (Misfit k i n c) h = refused k h
-handled-kind p s Enquiry h = obeyed-kind p (enquire p) 1 refl
-handled-kind p s (Update n c) h = obeyed-kind p (update-fields p (take n (drop 1 s))) c (update-numbered p (take n (drop 1 s)))
-handled-kind p s (Frame i n c) h = obeyed-kind p (order p i (take n (drop 3 s))) c (orders-numbered p i (take n (drop 3 s)))
+handled-kind : (p : Printer) (store s : List ℕ) (r : Received) → Sound s r → Kind p (consumed r) (handled p store s r)
+handled-kind p store s Partial h = silence 3 (omega arith) (omega arith)
+handled-kind p store s (Refused k c) h = refused k h
+handled-kind p store s (Misfit k i n c) h = refused k h
+handled-kind p store s Enquiry h = obeyed-kind p (enquire p) 1 refl
+handled-kind p store s (Update n c) h = obeyed-kind p (update-fields p (take n (drop 1 s))) c (update-numbered p (take n (drop 1 s)))
+handled-kind p store s (Frame i n c) h = obeyed-kind p (order p store i (take n (drop 3 s))) c (orders-numbered p store i (take n (drop 3 s)))
 
 pub outcome-kind : (m : List ℕ) (h : Handed) → Kind (printer-of m) (consumed (received (h .bytes))) (outcome m h)
 unfolding outcome
 outcome-kind m h =
     let K = Kind (printer-of m) (consumed (received (h .bytes))) in
     unless-case K (valid-state m) _ _ (silence 1 (omega arith) (omega arith))
+    (unless-case K (valid-store (h .store)) _ _ (silence 1 (omega arith) (omega arith))
     (unless-case K (leb answer-size (h .answer-room)) _ _ (silence 2 (omega arith) (omega arith))
     (unless-case K (leb strips-size (h .strip-room)) _ _ (silence 2 (omega arith) (omega arith))
-    (handled-kind (printer-of m) (h .bytes) (received (h .bytes)) (sound (h .bytes)))))
+    (handled-kind (printer-of m) (h .store) (h .bytes) (received (h .bytes)) (sound (h .bytes))))))

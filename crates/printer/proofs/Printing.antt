@@ -14,7 +14,8 @@ use Rattle.frame.proofs.Ground.{unless-tells}
 use Rattle.frame.proofs.Laws.{read-back}
 use Rattle.printer.specs.State.{valid-state, printer-of}
 use Rattle.printer.specs.Print.{print, ready, strips}
-use Rattle.printer.specs.Receive.{Outcome, outcome, handled, obeyed, order}
+use Rattle.printer.specs.Messages.{valid-store}
+use Rattle.printer.specs.Receive.{Outcome, outcome, handled, obeyed, printer-order, order}
 use Rattle.printer.specs.Demands.{full, print-frame, PrintRefusedExactly, StripsPrinted}
 use Rattle.printer.proofs.Valid.{valid-printer, four-jets}
 use Rattle.printer.proofs.PrintLaws.{strip-meaning}
@@ -24,21 +25,21 @@ print-received : (rest : List ℕ) → received (print-frame rest) ≡ Frame 0x9
 unfolding frame size-of
 print-received rest = read-back 0x94 [] rest refl (omega arith) .answer
 
-print-obeyed : (m rest : List ℕ) → valid-state m ≡ true → outcome m (full (print-frame rest)) ≡ obeyed (printer-of m) (print (printer-of m)) 4
-unfolding order
-print-obeyed m rest v = valid-handled m (print-frame rest) v ∙ ap (handled (printer-of m) (print-frame rest)) (print-received rest)
+print-obeyed : (m store rest : List ℕ) → valid-state m ≡ true → valid-store store ≡ true → outcome m (full store (print-frame rest)) ≡ obeyed (printer-of m) (print (printer-of m)) 4
+unfolding order printer-order
+print-obeyed m store rest v w = valid-handled m store (print-frame rest) v w ∙ ap (handled (printer-of m) store (print-frame rest)) (print-received rest)
 
 pub print-refused-exactly : PrintRefusedExactly
 unfolding obeyed print
-print-refused-exactly m rest v =
-    rw (print-obeyed m rest v)
+print-refused-exactly m store rest v w =
+    rw (print-obeyed m store rest v w)
     (unless-tells (λ (o : Outcome). o .number ≡ pick (ready (printer-of m)) 0 11) (ready (printer-of m)) _ _ (λ e. rw e) (λ e. rw e))
 
-ready-strips : (m rest : List ℕ) → valid-state m ≡ true → ready (printer-of m) ≡ true → outcome m (full (print-frame rest)) .strips ≡ strips (printer-of m)
+ready-strips : (m store rest : List ℕ) → valid-state m ≡ true → valid-store store ≡ true → ready (printer-of m) ≡ true → outcome m (full store (print-frame rest)) .strips ≡ strips (printer-of m)
 unfolding obeyed print
-ready-strips m rest v f = rw (print-obeyed m rest v, f)
+ready-strips m store rest v w f = rw (print-obeyed m store rest v w, f)
 
 pub strips-printed : StripsPrinted
-strips-printed m rest jet v f h =
+strips-printed m store rest jet v w f h =
     let s = strip-meaning (printer-of m) jet (four-jets m) (valid-printer m v) f h in
-    rw (ready-strips m rest v f) (record { ends = s .ends; same-shape = s .same-shape; items = s .replaced })
+    rw (ready-strips m store rest v w f) (record { ends = s .ends; same-shape = s .same-shape; items = s .replaced })

@@ -154,14 +154,14 @@ printed-as {held = held} {last = last} e x =
     record { ends = x .ends; same-shape = x .same-shape ∙ same-shape (tree-of held) (tree-of last) e; items = x .items }
 
 pub printed-as-accepted : PrintedAsAccepted
-printed-as-accepted model clock calls rest e =
+printed-as-accepted model clock calls store rest e w =
     let m = after-all (fresh-state model clock) calls in
     let v = reached-valid model clock calls e in
     record {
-      gets = print-refused-exactly m rest v;
+      gets = print-refused-exactly m store rest v w;
       prints = λ jet ready h.
           let x = fresh-holds model clock calls jet e h in
           let on : has-jet (printer-of m .model) jet ≡ true = rw (x .reached .same-model) h in
           let held = messages-held model clock calls jet e h (ready-at (printer-of m) jet (four-jets m) ready on .0) in
-          record { held = held; printed = printed-as (outline-same (x .follows) (held .content)) (strips-printed m rest jet v ready on) };
+          record { held = held; printed = printed-as (outline-same (x .follows) (held .content)) (strips-printed m store rest jet v w ready on) };
     }

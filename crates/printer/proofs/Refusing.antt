@@ -1,4 +1,4 @@
--- Demand 1: the rule tests the state first and then the buffers, each before it reads a byte, and of every other refusal the law of
+-- Demand 1: the rule tests the state and the store first and then the buffers, each before it reads a byte, and of every other refusal the law of
 -- outcomes says what stays and what is answered.
 use Prim.Native.Nat.{ℕ}
 use mathlib.Core.List.{List, [], _∷_}
@@ -8,7 +8,8 @@ use borrow.Author.Tests.{leb-true, leb-false}
 use lib.Dec.{leb}
 use Rattle.frame.specs.Ground.{pick}
 use Rattle.frame.proofs.Ground.{pick-case, unless-tells, true-both, never}
-use Rattle.printer.specs.State.{printer-of}
+use Rattle.printer.specs.State.{printer-of, valid-state}
+use Rattle.printer.specs.Messages.{valid-store}
 use Rattle.printer.specs.Answer.{nack}
 use Rattle.printer.specs.Call.{set-clock, tick-clock}
 use Rattle.printer.specs.Receive.{Outcome, outcome, silent, answer-size, strips-size}
@@ -16,12 +17,21 @@ use Rattle.printer.specs.OutcomeLaws.{Refuses}
 use Rattle.printer.specs.Demands.{Untouched, BadState, BadStateElsewhere, ShortBuffer, RefusedStays}
 use Rattle.printer.proofs.OutcomeLaws.{refusal-keeps}
 
+silent-one : (m : List ℕ) → Untouched m (silent (printer-of m) 1) 1
+silent-one m = record { gets = refl; takes = refl; writes = refl; prints = refl; stays = refl; stores = refl }
+
 pub bad-state : BadState
 unfolding outcome
-bad-state m h e = rw e (record { gets = refl; takes = refl; writes = refl; prints = refl; stays = refl })
+bad-state m h e =
+    unless-tells Bad (valid-state m) _ _ (λ _. silent-one m) (λ a.
+    unless-tells Bad (valid-store (h .store)) _ _ (λ _. silent-one m) (λ b.
+    never (sym e ∙ true-both _ _ a b)))
+  where
+    Bad : Outcome → Type 0
+    Bad o = Untouched m o 1
 
 silent-two : (m : List ℕ) → Untouched m (silent (printer-of m) 2) 2
-silent-two m = record { gets = refl; takes = refl; writes = refl; prints = refl; stays = refl }
+silent-two m = record { gets = refl; takes = refl; writes = refl; prints = refl; stays = refl; stores = refl }
 
 pub bad-state-elsewhere : BadStateElsewhere
 unfolding set-clock tick-clock
@@ -34,8 +44,8 @@ bad-state-elsewhere m =
 
 pub short-buffer : ShortBuffer
 unfolding outcome
-short-buffer m h v e =
-    rw v (
+short-buffer m h v w e =
+    rw (v, w) (
     unless-tells Short (leb answer-size (h .answer-room)) _ _ (λ _. silent-two m) (λ a.
     unless-tells Short (leb strips-size (h .strip-room)) _ _ (λ _. silent-two m) (λ b.
     never (sym e ∙ true-both _ _ a b))))
@@ -53,4 +63,4 @@ answer-by-number m o r =
 pub refused-stays : RefusedStays
 refused-stays m h n =
     let r = refusal-keeps m h n in
-    (r .state, r .strips, answer-by-number m (outcome m h) r)
+    (r .state, r .store, r .strips, answer-by-number m (outcome m h) r)

@@ -23,7 +23,8 @@ use Rattle.printer.specs.Order.{Order, jet-number, jet-in}
 use Rattle.printer.specs.Change.{parameters-in, address-in, first-of-head, second-of-head, positions, updated-jet, set-message, set-parameters, set-both, edit-message, update-fields}
 use Rattle.printer.specs.Request.{ask-counter, ask-message, ask-table, ask-clock}
 use Rattle.printer.specs.Print.{print, counted-jets}
-use Rattle.printer.specs.Receive.{order}
+use Rattle.printer.specs.Messages.{body-content, body-parameters, select-message, selected-body, store-message, valid-store}
+use Rattle.printer.specs.Receive.{printer-order, order}
 use Rattle.calendar.specs.declared.clock.Clock.{Clock}
 use Rattle.printer.proofs.Valid.{valid-at, jet-counter, on-row, content-short}
 use Rattle.printer.proofs.Rows.{each-beside, set-any, replicate-at}
@@ -31,7 +32,7 @@ use Rattle.printer.proofs.Numbers.{digits-part, value-fits}
 use Rattle.printer.proofs.Counters.{good-tells, valid-tells}
 use Rattle.printer.proofs.CounterLaws.{count-stays}
 use Rattle.printer.proofs.PrintLaws.{counted-settings, counted-set}
-use Rattle.printer.proofs.OrderLaws.{order-case, message-tells, parameters-tell, both-tell, edit-tells}
+use Rattle.printer.proofs.OrderLaws.{printer-order-case, order-case, message-tells, parameters-tell, both-tell, edit-tells, select-tells}
 
 -- A counter's final value has nine digits.
 final-small : (q : List ℕ) → good-settings q ≡ true → final q < 1_000_000_000
@@ -171,9 +172,25 @@ module _ (p : Printer) (i : ℕ) (d : List ℕ) (f : SizeFits i d) (v : valid p 
       (message-roomy j (replaced (message j) (address-in d) (drop 3 d))
       (omega (arith, edit-keeps-length (message j) (address-in d) (drop 3 d) (x .edits), message-short j room)) room)
 
-  pub order-rooms : all (order p i d .tests) ≡ true → Rooms (order p i d .after)
+  printer-rooms : all (printer-order p i d .tests) ≡ true → Rooms (printer-order p i d .after)
   unfolding ask-counter ask-message ask-table ask-clock print
-  order-rooms =
-      order-case (λ (o : Order). all (o .tests) ≡ true → Rooms (o .after)) p i d
+  printer-rooms =
+      printer-order-case (λ (o : Order). all (o .tests) ≡ true → Rooms (o .after)) p i d
       (λ _. message-leaves) parameters-leave both-leave
       (λ _ _. r) (λ _. edit-leaves) (λ _ _. r) (λ _ _. r) (λ _ _. counted-rooms p v r) (λ _ _ _. r)
+
+  module _ (store : List ℕ) (w : valid-store store ≡ true) where
+    select-leaves : all (select-message p store d .tests) ≡ true → Rooms (select-message p store d .after)
+    unfolding select-message
+    select-leaves t =
+        let x = select-tells p store d w t in
+        let body = selected-body store d in
+        put-rooms p (jet-number d) _ r
+        (parameters-roomy (with-message (jet-in p d) (body-content body)) (body-parameters body) (x .good .size) (x .good .parameters)
+        (message-roomy (jet-in p d) (body-content body) (content-short (body-content body) (x .good .content)) (here (x .there))))
+
+    pub order-rooms : all (order p store i d .tests) ≡ true → Rooms (order p store i d .after)
+    unfolding store-message
+    order-rooms =
+        order-case (λ (o : Order). all (o .tests) ≡ true → Rooms (o .after)) p store i d
+        (λ _ _. r) (λ _. select-leaves) (λ _. printer-rooms)

@@ -5,17 +5,21 @@ use mathlib.Core.List.{List, [], _∷_, map}
 use mathlib.Core.Path.{_≡_, refl, sym, _∙_, ap, subst}
 use native.Mathlib.Nat.{not-suc-le-zero}
 use native.Mathlib.Omega.{arith}
-use borrow.Author.Tests.{eq-eqb, ne-eqb}
+use borrow.Author.Tests.{eq-eqb, ne-eqb, eqb-true}
 use borrow.Rule.Slice.PartMut.{midOf, putMid}
+use lib.Dec.{eqb}
 use lib.ListN.{length, set, take, length-append, length-take}
-use Rattle.frame.specs.Ground.{Test, all, joined, over}
+use Rattle.frame.specs.Ground.{Refusal, Test, all, joined, over, pick}
+use Rattle.frame.specs.Wire.{fits, size-of}
+use Rattle.frame.specs.Receive.{received}
 use Rattle.frame.proofs.Ground.{lent-tail, tail-back}
-use Rattle.printer.specs.State.{Printer, bytes-of}
-use Rattle.printer.specs.Order.{Order, no-strips, Obeys}
+use Rattle.printer.specs.State.{Printer, printer-of, bytes-of}
+use Rattle.printer.specs.Order.{Order, StoreChange, unchanged, storing, store-after, no-strips, Obeys}
 use Rattle.printer.specs.Answer.{Silent, Settles, Tells, TellsOrder, ack, nack}
 use Rattle.printer.specs.Change.{change-order, update-fields}
+use Rattle.printer.specs.Messages.{ChangesStore, select-message, store-message, store-tests, stored-body, stored-number}
 use Rattle.printer.specs.Request.{request-order, ask-table, ask-clock}
-use Rattle.printer.specs.Receive.{Outcome, Meets, silent, refusal, done, obeyed, enquire}
+use Rattle.printer.specs.Receive.{Outcome, Meets, Fulfils, Receives, handed, handing-tests, handled, outcome, silent, refusal, done, obeyed, enquire}
 use Rattle.printer.specs.OrderLaws.{numbered}
 use Rattle.printer.specs.declared.answer.Answered.{Answered}
 use Rattle.printer.specs.declared.change.Change.{Change}
@@ -23,6 +27,7 @@ use Rattle.printer.specs.declared.change.Change.the-variants.{Message, P
 use Rattle.printer.specs.declared.request.Request.{Request}
 use Rattle.printer.specs.declared.request.Request.the-variants as request
 use Rattle.printer.specs.declared.request.Told.{Told}
+use Rattle.printer.proofs.Orders.{Fails, Passes, fails-checked, passes-checked}
 use Rattle.printer.proofs.OrderLaws.{obeyed-done, obeyed-refused, given-exactly}
 
 -- ---- The outcome of an order.
@@ -159,12 +164,83 @@ meets-printed o {number} m {answer} e n h s k l b =
       strip-bytes = b;
     })
 
--- ---- The orders of document 01.
+-- ---- The store: what an order that is obeyed puts into it, and one that puts nothing into it leaves it as it was.
+obeyed-store : (p : Printer) (o : Order) (consumed : ℕ) (store : List ℕ)
+    → store-after (obeyed p o consumed .store) store ≡ pick (all (o .tests)) (store-after (o .store) store) store
+obeyed-store p o consumed store = go (all (o .tests)) refl
+  where
+    go : (t : Bool) → all (o .tests) ≡ t → store-after (obeyed p o consumed .store) store ≡ pick (all (o .tests)) (store-after (o .store) store) store
+    go true e = rw (obeyed-done p o consumed e, e)
+    go false e = rw (obeyed-refused p o consumed e, e)
+
+same-store : (t : Bool) (c : StoreChange) (store : List ℕ) → c ≡ unchanged → store ≡ pick t (store-after c store) store
+same-store true c store e = rw e
+same-store false c store e = refl
+
+pub fulfils-obeyed : (p : Printer) (o : Order) (consumed : ℕ) {m answer strips : List ℕ} (store : List ℕ) {a : Answered} {m′ answer′ strips′ : List ℕ} → o .store ≡ unchanged
+    → Meets (obeyed p o consumed) m answer strips a m′ answer′ strips′ → Fulfils (obeyed p o consumed) m store answer strips a m′ store answer′ strips′
+fulfils-obeyed p o consumed store e x =
+    record { meets = x; stores = same-store (all (o .tests)) (o .store) store e ∙ sym (obeyed-store p o consumed store) }
+
+pub fulfils-same : {o o′ : Outcome} {m store answer strips : List ℕ} {a : Answered} {m′ store′ answer′ strips′ : List ℕ} → o′ ≡ o
+    → Fulfils o m store answer strips a m′ store′ answer′ strips′ → Fulfils o′ m store answer strips a m′ store′ answer′ strips′
+fulfils-same {m = m} {store = store} {answer = answer} {strips = strips} {a = a} {m′ = m′} {store′ = store′} {answer′ = answer′} {strips′ = strips′} e x =
+    subst (λ (o : Outcome). Fulfils o m store answer strips a m′ store′ answer′ strips′) (sym e) x
+
+-- An order on the store alone.
+same-state : (t : Bool) {m b : List ℕ} → b ≡ m → m ≡ pick t b m
+same-state true e = sym e
+same-state false e = refl
+
+pub fulfils-stored : (p : Printer) (store d : List ℕ) {number consumed : ℕ} {m answer : List ℕ} (strips : List ℕ) {a : Answered} {store′ answer′ : List ℕ} → bytes-of p ≡ m
+    → 1 ≤ length answer → ChangesStore (store-tests store d) (storing (stored-number d) (stored-body d)) store number store′ → Settles number consumed 0 answer a answer′
+    → Fulfils (obeyed p (store-message p store d) consumed) m store answer strips a m store′ answer′ strips
+unfolding store-message
+fulfils-stored p store d {consumed = consumed} strips b h c s =
+    let o = store-message p store d in
+    record {
+      meets = meets-changed p o strips (record { numbers = refl; frame = refl; strips = refl }) h (record { number = c .number; state = same-state (all (o .tests)) b }) s;
+      stores = c .bytes ∙ sym (obeyed-store p o consumed store);
+    }
+
+-- ---- What is handed in: silence where the state, the store or a buffer is not as it must be, and else what is handled.
+pub receives-silent : (m store s answer strips : List ℕ) {number : ℕ} {a : Answered} → Fails (handing-tests m (handed store s answer strips)) number → (number ≡ 0 → ⊥)
+    → Silent number a → Receives m store s answer strips a m store answer strips
+unfolding outcome
+receives-silent m store s answer strips f n x =
+    record {
+      fulfils =
+          fulfils-same (fails-checked (silent (printer-of m)) (handled (printer-of m) store s (received s)) f)
+          (record { meets = meets-silent (printer-of m) m answer strips n x; stores = refl });
+    }
+
+pub receives-handled : {m store s answer strips : List ℕ} {a : Answered} {m′ store′ answer′ strips′ : List ℕ} → Passes (handing-tests m (handed store s answer strips))
+    → Fulfils (handled (printer-of m) store s (received s)) m store answer strips a m′ store′ answer′ strips′ → Receives m store s answer strips a m′ store′ answer′ strips′
+unfolding outcome
+receives-handled {m} {store} {s} f x =
+    record { fulfils = fulfils-same (passes-checked (λ (r : Refusal). silent (printer-of m) (r .number)) (handled (printer-of m) store s (received s)) f) x }
+
+-- ---- A row of the table, and the length that it gives.
+pub row : (identifier k n : ℕ) → identifier ≡ k → fits (size-of identifier) n ≡ true → fits (size-of k) n ≡ true
+row identifier k n e h = subst (λ (i : ℕ). fits (size-of i) n ≡ true) e h
+
+pub exactly : {n k : ℕ} → eqb n k ≡ true → k ≤ n
+exactly {n} {k} h = let e = eqb-true n k h in omega arith
+
+-- ---- The orders of document 01, and 40h.
 pub change-changes : (what : Change) (p : Printer) (d : List ℕ) → Changes (change-order what p d)
 change-changes Message p d = record { numbers = refl; frame = refl; strips = refl }
 change-changes Parameters p d = record { numbers = refl; frame = refl; strips = refl }
 change-changes Both p d = record { numbers = refl; frame = refl; strips = refl }
 change-changes Characters p d = record { numbers = refl; frame = refl; strips = refl }
+
+pub select-changes : (p : Printer) (store d : List ℕ) → Changes (select-message p store d)
+unfolding select-message
+select-changes p store d = record { numbers = refl; frame = refl; strips = refl }
+
+pub select-unchanged : (p : Printer) (store d : List ℕ) → select-message p store d .store ≡ unchanged
+unfolding select-message
+select-unchanged p store d = refl
 
 pub fields-change : (p : Printer) (text : List ℕ) → Changes (update-fields p text)
 unfolding update-fields

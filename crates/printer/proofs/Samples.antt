@@ -13,9 +13,12 @@ use Rattle.printer.specs.Counter.{good-settings, valid-counter, counter-
 use Rattle.printer.specs.Jet.{has-jet, valid-message, valid-jet, jet-of, jet-bytes}
 use Rattle.printer.specs.State.{empty-jet, valid, printer-of, bytes-of, valid-state}
 use Rattle.printer.specs.Change.{set-message, edit-message}
-use Rattle.printer.specs.Receive.{order, obeyed, outcome}
+use Rattle.library.specs.Record.{begins, records, rest}
+use Rattle.library.specs.Store.{is-store}
+use Rattle.printer.specs.Messages.{valid-store}
+use Rattle.printer.specs.Receive.{printer-order, order, obeyed, outcome}
 use Rattle.printer.specs.Samples.{samples, come-out}
 
 pub samples-hold : map come-out samples ≡ samples
-unfolding size-of received updated judged framed frame is-character is-expansion is-count kind-of code-of with-line with-field verdict is-content tested mark-of is-leap days-in is-date is-real good-settings valid-counter counter-of counter-bytes has-jet valid-message valid-jet jet-of jet-bytes empty-jet valid printer-of bytes-of valid-state set-message edit-message order obeyed outcome
+unfolding size-of received updated judged framed frame is-character is-expansion is-count kind-of code-of with-line with-field verdict is-content tested mark-of is-leap days-in is-date is-real good-settings valid-counter counter-of counter-bytes has-jet valid-message valid-jet jet-of jet-bytes empty-jet valid printer-of bytes-of valid-state set-message edit-message begins records rest is-store valid-store printer-order order obeyed outcome
 samples-hold = refl

@@ -6,7 +6,7 @@ use mathlib.Core.Logic.{_↔_}
 use mathlib.Core.Path.{_≡_}
 use lib.Dec.{eqb, leb, ltb}
 use lib.ListN.{length, getD, take, drop}
-use Rattle.frame.specs.Ground.{pick, both, within, all}
+use Rattle.frame.specs.Ground.{pick, both, within, has, all}
 use Rattle.frame.specs.Wire.{size-of, fits}
 use Rattle.frame.specs.Build.{frame, Builds}
 use Rattle.frame.specs.declared.build.Built.the-variants.{Written}
@@ -24,15 +24,20 @@ use Rattle.calendar.specs.Clock.{clock-text, entries, table-text}
 use Rattle.printer.specs.Counter.{counter-text}
 use Rattle.printer.specs.Jet.{Jet, has-jet, has-message, message, parameters, with-message, with-parameters}
 use Rattle.printer.specs.State.{Printer, jet-at, printer-of, bytes-of, state-size, valid-state}
-use Rattle.printer.specs.Order.{Obeys, left, no-strips, jet-number, jet-in, with-jet-in}
+use Rattle.library.specs.Record.{records}
+use Rattle.library.specs.Store.{body-of, held}
+use Rattle.library.specs.StoreLaws.{Stores}
+use Rattle.printer.specs.Order.{StoreChange, unchanged, storing, store-after, Obeys, left, no-strips, jet-number, jet-in, with-jet-in}
 use Rattle.printer.specs.Change.{parameters-in, address-in, edited-jet, update-fields, updated-head}
+use Rattle.printer.specs.Messages.{valid-store, selected-jet, shown}
 use Rattle.printer.specs.Print.{ready, strips, values, counted-jets}
 use Rattle.printer.specs.Receive.{Handed, Outcome, outcome, kept, obeyed, order, refusal, answer-size, strips-size}
 use Rattle.printer.specs.Call.{Freshens, fresh, fresh-tests, set-clock, tick-clock}
 use Rattle.calendar.specs.declared.clock.Clock.{Clock}
 
 -- ---- Calls.
--- A call of the box: bytes handed in with buffers of some sizes, a clock to be set, or a second that passes.
+-- A call of the box: bytes handed in with a store and buffers of some sizes, a clock to be set, or a second that passes. 02, Wish 1: "a
+-- fresh printer starts with any store, and another may be lent from call to call".
 pub data Call : Type 0 where
   hand-in : Handed → Call
   clock-set : Clock → Call
@@ -48,9 +53,9 @@ abbrev pub after-all : List ℕ → List Call → List ℕ
 after-all m [] = m
 after-all m (c ∷ calls) = after-all (after m c) calls
 
--- Bytes handed in with buffers of the stated size.
-abbrev pub full : List ℕ → Handed
-full s = record { bytes = s; answer-room = answer-size; strip-room = strips-size }
+-- Bytes handed in with a store and buffers of the stated size.
+abbrev pub full : List ℕ → List ℕ → Handed
+full store s = record { bytes = s; store = store; answer-room = answer-size; strip-room = strips-size }
 
 -- ---- Demand 1: "a bad state, a short buffer or a bad frame gets its number; the first two take in nothing; a refused frame is answered
 -- NACK alone and leaves the state as it was."
@@ -61,9 +66,11 @@ pub record Untouched (m : List ℕ) (o : Outcome) (number : ℕ) : Type 0 where
   pub writes : o .answer ≡ []
   pub prints : o .strips ≡ no-strips
   pub stays : kept o m ≡ m
+  pub stores : o .store ≡ unchanged
 
 abbrev pub BadState : Type 0
-BadState = (m : List ℕ) (h : Handed) → valid-state m ≡ false → Untouched m (outcome m h) 1
+BadState =
+    (m : List ℕ) (h : Handed) → both (valid-state m) (valid-store (h .store)) ≡ false → Untouched m (outcome m h) 1
 
 -- So it is where the clock is set and where a second passes: 1, and no byte changes; and a fresh printer wants bytes of a state's size.
 pub record OtherCalls (m : List ℕ) : Type 0 where
@@ -78,43 +85,50 @@ BadStateElsewhere = (m : List ℕ) → OtherCalls m
 
 abbrev pub ShortBuffer : Type 0
 ShortBuffer =
-    (m : List ℕ) (h : Handed) → valid-state m ≡ true →
+    (m : List ℕ) (h : Handed) → valid-state m ≡ true → valid-store (h .store) ≡ true →
     both (leb 554 (h .answer-room)) (leb 6144 (h .strip-room)) ≡ false →
     Untouched m (outcome m h) 2
 
--- A refused frame or update is answered 15h alone, and the state stays; what is not whole is not answered.
+-- A refused frame or update is answered 15h alone, and state and store stay; what is not whole is not answered.
 abbrev pub RefusedStays : Type 0
 RefusedStays =
     (m : List ℕ) (h : Handed) → (outcome m h .number ≡ 0 → ⊥) →
     (kept (outcome m h) m ≡ m)
+    × (outcome m h .store ≡ unchanged)
     × (outcome m h .strips ≡ no-strips)
     × (outcome m h .answer ≡ pick (leb (outcome m h .number) 3) [] (0x15 ∷ []))
 
 -- ---- Demand 2: "In a valid state with buffers of the stated size, a frame is acknowledged exactly when the rules accept it, and then has
 -- exactly the written effect".
 -- What is handed in passes if it is a 05h, or an update or a sound frame all of whose tests hold.
-abbrev pub passes : Printer → List ℕ → Received → Bool
-passes p s Partial = false
-passes p s (Refused number consumed) = false
-passes p s (Misfit number identifier n consumed) = false
-passes p s Enquiry = true
-passes p s (Update n consumed) = all (update-fields p (take n (drop 1 s)) .tests)
-passes p s (Frame identifier n consumed) = all (order p identifier (take n (drop 3 s)) .tests)
+abbrev pub passes : Printer → List ℕ → List ℕ → Received → Bool
+passes p store s Partial = false
+passes p store s (Refused number consumed) = false
+passes p store s (Misfit number identifier n consumed) = false
+passes p store s Enquiry = true
+passes p store s (Update n consumed) = all (update-fields p (take n (drop 1 s)) .tests)
+passes p store s (Frame identifier n consumed) = all (order p store identifier (take n (drop 3 s)) .tests)
 
 abbrev pub AcknowledgedExactly : Type 0
 AcknowledgedExactly =
-    (m s : List ℕ) → valid-state m ≡ true →
-    (outcome m (full s) .number ≡ 0) ↔ (passes (printer-of m) s (received s) ≡ true)
+    (m store s : List ℕ) → valid-state m ≡ true → valid-store store ≡ true →
+    (outcome m (full store s) .number ≡ 0) ↔ (passes (printer-of m) store s (received s) ≡ true)
 
--- The state, the frame behind the 06h and the strips that each identifier leads to, where it passes.
-abbrev pub printer-after : Printer → ℕ → List ℕ → Printer
-printer-after p identifier d =
+-- The message that a number in the data stands for: 02, Wish 1, 40h has "jet, number", and the body is "37 parameter bytes, content".
+abbrev pub selected-in : List ℕ → List ℕ → List ℕ
+selected-in store d = body-of (getD d 1 0) (records store)
+
+-- The state, the frame behind the 06h, the strips and what is put into the store that each identifier leads to, where it passes.
+abbrev pub printer-after : Printer → List ℕ → ℕ → List ℕ → Printer
+printer-after p store identifier d =
     pick (eqb identifier 0x0A) (with-jet-in p d (with-message (jet-in p d) (drop 1 d)))
     (pick (eqb identifier 0x0B) (with-jet-in p d (with-parameters (jet-in p d) (parameters-in d)))
     (pick (eqb identifier 0x0C)
     (with-jet-in p d (with-parameters (with-message (jet-in p d) (drop 38 d)) (parameters-in d)))
+    (pick (eqb identifier 0x40)
+    (with-jet-in p d (with-parameters (with-message (jet-in p d) (drop 37 (selected-in store d))) (take 37 (selected-in store d))))
     (pick (eqb identifier 0x42) (with-jet-in p d (edited-jet (jet-in p d) (address-in d) (drop 3 d)))
-    (pick (eqb identifier 0x94) (counted-jets p) p))))
+    (pick (eqb identifier 0x94) (counted-jets p) p)))))
 
 abbrev pub frame-after : Printer → ℕ → List ℕ → List ℕ
 frame-after p identifier d =
@@ -126,32 +140,37 @@ frame-after p identifier d =
 abbrev pub strips-after : Printer → ℕ → List (List ℕ)
 strips-after p identifier = pick (eqb identifier 0x94) (strips p) no-strips
 
+abbrev pub change-after : ℕ → List ℕ → StoreChange
+change-after identifier d = pick (eqb identifier 0x1C) (storing (getD d 0 0) (drop 1 d)) unchanged
+
 -- "and then has exactly the written effect, answer and strip included": where what is handed in passes, this is the outcome.
-pub record Effect (o : Outcome) (consumed : ℕ) (frame : List ℕ) (strips : List (List ℕ)) (p : Printer) : Type 0 where
+pub record Effect (o : Outcome) (consumed : ℕ) (frame : List ℕ) (strips : List (List ℕ)) (p : Printer) (change : StoreChange) : Type 0 where
   pub acknowledged : o .number ≡ 0
   pub takes : o .consumed ≡ consumed
   pub answers : o .answer ≡ 0x06 ∷ frame
   pub prints : o .strips ≡ strips
   pub becomes : o .printer ≡ p
+  pub stores : o .store ≡ change
 
-abbrev pub HasEffect : Printer → List ℕ → Received → Outcome → Type 0
-HasEffect p s Partial o = ⊥
-HasEffect p s (Refused number consumed) o = ⊥
-HasEffect p s (Misfit number identifier n consumed) o = ⊥
-HasEffect p s Enquiry o = Effect o 1 [] no-strips p
-HasEffect p s (Update n consumed) o = Effect o consumed [] no-strips (updated-head p (take n (drop 1 s)))
-HasEffect p s (Frame identifier n consumed) o =
+abbrev pub HasEffect : Printer → List ℕ → List ℕ → Received → Outcome → Type 0
+HasEffect p store s Partial o = ⊥
+HasEffect p store s (Refused number consumed) o = ⊥
+HasEffect p store s (Misfit number identifier n consumed) o = ⊥
+HasEffect p store s Enquiry o = Effect o 1 [] no-strips p unchanged
+HasEffect p store s (Update n consumed) o = Effect o consumed [] no-strips (updated-head p (take n (drop 1 s))) unchanged
+HasEffect p store s (Frame identifier n consumed) o =
     Effect
     o
     consumed
     (frame-after p identifier (take n (drop 3 s)))
     (strips-after p identifier)
-    (printer-after p identifier (take n (drop 3 s)))
+    (printer-after p store identifier (take n (drop 3 s)))
+    (change-after identifier (take n (drop 3 s)))
 
 abbrev pub ExactEffect : Type 0
 ExactEffect =
-    (m s : List ℕ) → valid-state m ≡ true → passes (printer-of m) s (received s) ≡ true →
-    HasEffect (printer-of m) s (received s) (outcome m (full s))
+    (m store s : List ℕ) → valid-state m ≡ true → valid-store store ≡ true → passes (printer-of m) store s (received s) ≡ true →
+    HasEffect (printer-of m) store s (received s) (outcome m (full store s))
 
 -- The state's bytes are then those of the printer that it becomes.
 abbrev pub EffectKept : Type 0
@@ -160,23 +179,58 @@ EffectKept = (m : List ℕ) (h : Handed) → outcome m h .number ≡ 0 → kept 
 -- Buffers larger than the stated size change nothing.
 abbrev pub RoomEnough : Type 0
 RoomEnough =
-    (m : List ℕ) (h : Handed) → 554 ≤ h .answer-room → 6144 ≤ h .strip-room → outcome m h ≡ outcome m (full (h .bytes))
+    (m : List ℕ) (h : Handed) → 554 ≤ h .answer-room → 6144 ≤ h .strip-room → outcome m h ≡ outcome m (full (h .store) (h .bytes))
 
 -- "What the frame builder writes, the box reads back as the same identifier and data", whatever stands behind it: that identifier and
--- data are obeyed, or refused with 7 where the table wants another length; the frame is consumed; and only 7 to 13 can follow.
-pub record ReadAsBuilt (p : Printer) (identifier : ℕ) (d : List ℕ) (o : Outcome) : Type 0 where
+-- data are obeyed, or refused with 7 where the table wants another length; the frame is consumed; and only 7 to 13, 16 and 17 can follow.
+pub record ReadAsBuilt (p : Printer) (store : List ℕ) (identifier : ℕ) (d : List ℕ) (o : Outcome) : Type 0 where
   pub handled :
       o ≡
-      pick (fits (size-of identifier) (length d)) (obeyed p (order p identifier d) (length d + 4)) (refusal p 7 (length d + 4))
+      pick
+      (fits (size-of identifier) (length d))
+      (obeyed p (order p store identifier d) (length d + 4))
+      (refusal p 7 (length d + 4))
   pub takes : o .consumed ≡ length d + 4
-  pub numbers : (o .number ≡ 0 → ⊥) → (7 ≤ o .number) × (o .number ≤ 13)
+  pub numbers :
+      (o .number ≡ 0 → ⊥) → has (o .number) (7 ∷ 8 ∷ 9 ∷ 10 ∷ 11 ∷ 12 ∷ 13 ∷ 16 ∷ 17 ∷ []) ≡ true
 
 abbrev pub BuiltReadAsBuilt : Type 0
 BuiltReadAsBuilt =
-    (m before : List ℕ) (identifier : ℕ) (d : List ℕ) (n : ℕ) (after rest : List ℕ) →
+    (m store before : List ℕ) (identifier : ℕ) (d : List ℕ) (n : ℕ) (after rest : List ℕ) →
     valid-state m ≡ true →
+    valid-store store ≡ true →
     Builds before identifier d (Written n) after →
-    ReadAsBuilt (printer-of m) identifier d (outcome m (full (take n after ++ rest)))
+    ReadAsBuilt (printer-of m) store identifier d (outcome m (full store (take n after ++ rest)))
+
+-- ---- The store. 02, Wish 1: storing "leaves the store well formed", as does every other call that is lent it.
+abbrev pub StoreStays : Type 0
+StoreStays =
+    (m : List ℕ) (h : Handed) → valid-store (h .store) ≡ true →
+    valid-store (store-after (outcome m h .store) (h .store)) ≡ true
+
+-- An accepted 1Ch: every other record is there as it was, byte for byte and in its order, and the new one, found under its number, is last.
+abbrev pub StoredLast : Type 0
+StoredLast =
+    (m store s : List ℕ) (n consumed : ℕ) →
+    valid-state m ≡ true →
+    valid-store store ≡ true →
+    received s ≡ Frame 0x1C n consumed →
+    outcome m (full store s) .number ≡ 0 →
+    Stores
+    store
+    (getD (take n (drop 3 s)) 0 0)
+    (drop 1 (take n (drop 3 s)))
+    (store-after (outcome m (full store s) .store) store)
+
+-- What the approval screen is shown for a number is the message that a jet holds which selects it; for an empty number it is the content
+-- that was lent.
+pub record ShownAs (store current : List ℕ) (n : ℕ) : Type 0 where
+  pub selected :
+      (j : Jet) → held n (records store) ≡ true → shown store current n ≡ message (selected-jet j (body-of n (records store)))
+  pub empty : held n (records store) ≡ false → shown store current n ≡ current
+
+abbrev pub ShownAsSelected : Type 0
+ShownAsSelected = (store current : List ℕ) (n : ℕ) → ShownAs store current n
 
 -- ---- Demand 3: "From a fresh printer, in any order of calls".
 abbrev pub fresh-state : ℕ → Clock → List ℕ
@@ -185,28 +239,31 @@ fresh-state model clock = bytes-of (fresh model clock)
 abbrev pub is-fresh : ℕ → Clock → Bool
 is-fresh model clock = all (fresh-tests model clock)
 
--- The whole message that a call brings a jet: the content of an accepted 0Ah or 0Ch for it, else none.
+-- The whole message that a call brings a jet: the content of an accepted 0Ah or 0Ch for it, or of the record that an accepted 40h selects
+-- (02, Wish 1: "a selection counts as a whole message accepted"), else none.
 pub data Brought : Type 0 where
   nothing : Brought
   whole : List ℕ → Brought
 
-abbrev pub brought-by : ℕ → ℕ → List ℕ → Brought
-brought-by jet identifier d =
+abbrev pub brought-by : ℕ → List ℕ → ℕ → List ℕ → Brought
+brought-by jet store identifier d =
     pick (eqb (jet-number d) jet)
-    (pick (eqb identifier 0x0A) (whole (drop 1 d)) (pick (eqb identifier 0x0C) (whole (drop 38 d)) nothing))
+    (pick (eqb identifier 0x0A) (whole (drop 1 d))
+    (pick (eqb identifier 0x0C) (whole (drop 38 d))
+    (pick (eqb identifier 0x40) (whole (drop 37 (selected-in store d))) nothing)))
     nothing
 
-abbrev pub brought-in : ℕ → List ℕ → Received → Brought
-brought-in jet s Partial = nothing
-brought-in jet s (Refused number consumed) = nothing
-brought-in jet s (Misfit number identifier n consumed) = nothing
-brought-in jet s Enquiry = nothing
-brought-in jet s (Update n consumed) = nothing
-brought-in jet s (Frame identifier n consumed) = brought-by jet identifier (take n (drop 3 s))
+abbrev pub brought-in : ℕ → List ℕ → List ℕ → Received → Brought
+brought-in jet store s Partial = nothing
+brought-in jet store s (Refused number consumed) = nothing
+brought-in jet store s (Misfit number identifier n consumed) = nothing
+brought-in jet store s Enquiry = nothing
+brought-in jet store s (Update n consumed) = nothing
+brought-in jet store s (Frame identifier n consumed) = brought-by jet store identifier (take n (drop 3 s))
 
 abbrev pub brought : ℕ → List ℕ → Call → Brought
 brought jet m (hand-in h) =
-    pick (eqb (outcome m h .number) 0) (brought-in jet (h .bytes) (received (h .bytes))) nothing
+    pick (eqb (outcome m h .number) 0) (brought-in jet (h .store) (h .bytes) (received (h .bytes))) nothing
 brought jet m (clock-set c) = nothing
 brought jet m second-passes = nothing
 
@@ -271,11 +328,12 @@ pub record Edited (p q : Printer) (d : List ℕ) : Type 0 where
 
 abbrev pub EditsOnlyAddressed : Type 0
 EditsOnlyAddressed =
-    (m s : List ℕ) (n consumed : ℕ) →
+    (m store s : List ℕ) (n consumed : ℕ) →
     valid-state m ≡ true →
+    valid-store store ≡ true →
     received s ≡ Frame 0x42 n consumed →
-    outcome m (full s) .number ≡ 0 →
-    Edited (printer-of m) (outcome m (full s) .printer) (take n (drop 3 s))
+    outcome m (full store s) .number ≡ 0 →
+    Edited (printer-of m) (outcome m (full store s) .printer) (take n (drop 3 s))
 
 -- The characters of the fields of a jet's message, in order.
 abbrev pub letters : Printer → ℕ → List ℕ
@@ -297,21 +355,23 @@ pub record Updated (p q : Printer) (text : List ℕ) : Type 0 where
 
 abbrev pub UpdatesOnlyFields : Type 0
 UpdatesOnlyFields =
-    (m s : List ℕ) (n consumed : ℕ) →
+    (m store s : List ℕ) (n consumed : ℕ) →
     valid-state m ≡ true →
+    valid-store store ≡ true →
     received s ≡ Update n consumed →
-    outcome m (full s) .number ≡ 0 →
-    Updated (printer-of m) (outcome m (full s) .printer) (take n (drop 1 s))
+    outcome m (full store s) .number ≡ 0 →
+    Updated (printer-of m) (outcome m (full store s) .printer) (take n (drop 1 s))
 
 -- "a sound print frame is refused exactly when a jet has no message or no parameters, and otherwise every strip runs to its end mark with
--- those same lines and blocks, each item replaced by what it stands for then."
+-- those same lines and blocks, each item replaced by what it stands for then." 02, Wish 1: it "asks for a well-formed store too".
 -- A print frame, alone or with bytes behind it.
 abbrev pub print-frame : List ℕ → List ℕ
 print-frame rest = 0x94 ∷ 0x00 ∷ 0x00 ∷ 0x94 ∷ rest
 
 abbrev pub PrintRefusedExactly : Type 0
 PrintRefusedExactly =
-    (m rest : List ℕ) → valid-state m ≡ true → outcome m (full (print-frame rest)) .number ≡ pick (ready (printer-of m)) 0 11
+    (m store rest : List ℕ) → valid-state m ≡ true → valid-store store ≡ true →
+    outcome m (full store (print-frame rest)) .number ≡ pick (ready (printer-of m)) 0 11
 
 -- The strip of a jet, with the lines and blocks of a content.
 pub record Printed (p : Printer) (jet : ℕ) (content strip : List ℕ) : Type 0 where
@@ -321,8 +381,16 @@ pub record Printed (p : Printer) (jet : ℕ) (content strip : List ℕ) : Type 0
 
 abbrev pub StripsPrinted : Type 0
 StripsPrinted =
-    (m rest : List ℕ) (jet : ℕ) → valid-state m ≡ true → ready (printer-of m) ≡ true → has-jet (printer-of m .model) jet ≡ true →
-    Printed (printer-of m) jet (message (jet-at (printer-of m) jet)) (getD (outcome m (full (print-frame rest)) .strips) (jet - 1) [])
+    (m store rest : List ℕ) (jet : ℕ) →
+    valid-state m ≡ true →
+    valid-store store ≡ true →
+    ready (printer-of m) ≡ true →
+    has-jet (printer-of m .model) jet ≡ true →
+    Printed
+    (printer-of m)
+    jet
+    (message (jet-at (printer-of m) jet))
+    (getD (outcome m (full store (print-frame rest)) .strips) (jet - 1) [])
 
 -- Every state that is reached is valid, so that all of this holds of it.
 abbrev pub ReachedValid : Type 0
@@ -345,9 +413,9 @@ pub record PrintsAccepted (model : ℕ) (p : Printer) (o : Outcome) (last : ℕ 
 
 abbrev pub PrintedAsAccepted : Type 0
 PrintedAsAccepted =
-    (model : ℕ) (clock : Clock) (calls : List Call) (rest : List ℕ) → is-fresh model clock ≡ true →
+    (model : ℕ) (clock : Clock) (calls : List Call) (store rest : List ℕ) → is-fresh model clock ≡ true → valid-store store ≡ true →
     PrintsAccepted
     model
     (printer-of (after-all (fresh-state model clock) calls))
-    (outcome (after-all (fresh-state model clock) calls) (full (print-frame rest)))
+    (outcome (after-all (fresh-state model clock) calls) (full store (print-frame rest)))
     (λ (jet : ℕ). last-whole jet (fresh-state model clock) calls [])

@@ -6,6 +6,7 @@ pub mod State
 pub mod Order
 pub mod Answer
 pub mod Change
+pub mod Messages
 pub mod Request
 pub mod Print
 pub mod Receive

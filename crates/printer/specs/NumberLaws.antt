@@ -15,31 +15,35 @@ use Rattle.printer.specs.State.{Printer, printer-of, state-size}
 use Rattle.printer.specs.Order.{Obeys}
 use Rattle.printer.specs.Change.{update-fields}
 use Rattle.printer.specs.Receive.{Handed, handing-tests, order, outcome}
+use Rattle.printer.specs.Messages.{Shows, show-tests}
 use Rattle.printer.specs.Call.{Freshens, fresh-tests, set-clock, tick-clock}
 use Rattle.calendar.specs.declared.clock.Clock.{Clock}
 
--- 01, Numbers: "Checked in this order". Of each frame, an update, the bytes handed in, a fresh printer, setting the clock, a tick.
+-- 01, Numbers: "Checked in this order". Of each frame, an update, the bytes handed in, a fresh printer, setting the clock, a tick, and what
+-- the approval screen asks for.
 pub record InOrder : Type 0 where
-  pub frames : (p : Printer) (identifier : ℕ) (d : List ℕ) → in-order (order p identifier d .tests) ≡ true
+  pub frames : (p : Printer) (store : List ℕ) (identifier : ℕ) (d : List ℕ) → in-order (order p store identifier d .tests) ≡ true
   pub updates : (p : Printer) (text : List ℕ) → in-order (update-fields p text .tests) ≡ true
   pub handing : (m : List ℕ) (h : Handed) → in-order (handing-tests m h) ≡ true
   pub fresh : (m : List ℕ) (model : ℕ) (clock : Clock) → in-order (test (eqb (length m) state-size) 1 ∷ fresh-tests model clock) ≡ true
   pub clock : (m : List ℕ) (clock : Clock) → in-order (set-clock m clock .tests) ≡ true
   pub tick : (m : List ℕ) → in-order (tick-clock m .tests) ≡ true
+  pub show : (store : List ℕ) (n : ℕ) → in-order (show-tests store n) ≡ true
 
--- What the box asks of what is handed in, from the state to the last byte: 1 and 2 of the state and the buffers, 3 to 7 of the bytes
+-- What the box asks of what is handed in, from the state to the last byte: 1 and 2 of the state, the store and the buffers, 3 to 7 of the bytes
 -- received, and then the tests of the update or of the frame.
-abbrev pub asked-tests : Printer → List ℕ → Received → List Test
-asked-tests p s Partial = []
-asked-tests p s (Refused number consumed) = []
-asked-tests p s (Misfit number identifier n consumed) = []
-asked-tests p s Enquiry = []
-asked-tests p s (Update n consumed) = update-fields p (take n (drop 1 s)) .tests
-asked-tests p s (Frame identifier n consumed) = order p identifier (take n (drop 3 s)) .tests
+abbrev pub asked-tests : Printer → List ℕ → List ℕ → Received → List Test
+asked-tests p store s Partial = []
+asked-tests p store s (Refused number consumed) = []
+asked-tests p store s (Misfit number identifier n consumed) = []
+asked-tests p store s Enquiry = []
+asked-tests p store s (Update n consumed) = update-fields p (take n (drop 1 s)) .tests
+asked-tests p store s (Frame identifier n consumed) = order p store identifier (take n (drop 3 s)) .tests
 
 abbrev pub outcome-tests : List ℕ → Handed → List Test
 outcome-tests m h =
-    handing-tests m h ++ (receive-tests (h .bytes) ++ asked-tests (printer-of m) (h .bytes) (received (h .bytes)))
+    handing-tests m h
+    ++ (receive-tests (h .bytes) ++ asked-tests (printer-of m) (h .store) (h .bytes) (received (h .bytes)))
 
 -- 01, Numbers: "Checked in this order; the first that applies is given, and none otherwise". Of each call that gives a number.
 pub record CallsGiveFirst : Type 0 where
@@ -53,3 +57,5 @@ pub record CallsGiveFirst : Type 0 where
       Obeys (set-clock m clock) m r m′ →
       FirstGiven (set-clock m clock .tests) r
   pub tick : (m : List ℕ) (r : ℕ) (m′ : List ℕ) → Obeys (tick-clock m) m r m′ → FirstGiven (tick-clock m .tests) r
+  pub show :
+      (store current : List ℕ) (n refused : ℕ) (r : List ℕ) → Shows store current n refused r → FirstGiven (show-tests store n) refused

@@ -5,14 +5,25 @@ use mathlib.Core.List.{List, []}
 use mathlib.Core.Path.{_≡_}
 use lib.ListN.{getD, replicate}
 use Rattle.frame.specs.Ground.{Test, all, pick, first-failing}
+use Rattle.library.specs.Store.{stored}
 use Rattle.printer.specs.Jet.{Jet, has-jet, jet-size}
 use Rattle.printer.specs.State.{Printer, jet-at, with-jet, state-size, jet-place, bytes-of}
 
--- The tests with their numbers, in document 01's order; and for what passes them all the state behind it, the frame answered behind the
--- 06h and the strip of each jet.
+-- What is put into the store: nothing, or a message under its number. And the store's bytes behind that.
+pub data StoreChange : Type 0 where
+  unchanged : StoreChange
+  storing : ℕ → List ℕ → StoreChange
+
+abbrev pub store-after : StoreChange → List ℕ → List ℕ
+store-after unchanged store = store
+store-after (storing n body) store = stored n body store
+
+-- The tests with their numbers, in the documents' order; and for what passes them all the state behind it, what is put into the store,
+-- the frame answered behind the 06h and the strip of each jet.
 pub record Order : Type 0 where
   pub tests : List Test
   pub after : Printer
+  pub store : StoreChange
   pub frame : List ℕ
   pub strips : List (List ℕ)
 
@@ -21,10 +32,10 @@ no-strips = replicate 4 []
 
 -- An order that changes the state, and one that asks for a frame.
 abbrev pub change : List Test → Printer → Order
-change tests after = record { tests = tests; after = after; frame = []; strips = no-strips }
+change tests after = record { tests = tests; after = after; store = unchanged; frame = []; strips = no-strips }
 
 abbrev pub tell : List Test → Printer → List ℕ → Order
-tell tests p frame = record { tests = tests; after = p; frame = frame; strips = no-strips }
+tell tests p frame = record { tests = tests; after = p; store = unchanged; frame = frame; strips = no-strips }
 
 -- 01, Numbers: "the first that applies is given, and none otherwise"; and 0 is "done".
 abbrev pub given : List Test → ℕ

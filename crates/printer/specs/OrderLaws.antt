@@ -1,5 +1,5 @@
--- What is true of every order: it is refused at its first test that fails and then changes nothing, or done; and a valid state stays
--- valid.
+-- What is true of every order: it is refused at its first test that fails and then changes nothing, or done; a valid state stays valid,
+-- and a well-formed store well formed.
 use Prim.Native.Nat.{ℕ, _≤_}
 use mathlib.Core.Bool.{Bool, true, false}
 use mathlib.Core.List.{List, [], _∷_}
@@ -8,8 +8,9 @@ use lib.Dec.{leb}
 use lib.ListN.{length}
 use Rattle.frame.specs.Ground.{Test, both, all}
 use Rattle.printer.specs.State.{Printer, valid}
-use Rattle.printer.specs.Order.{Order, given}
+use Rattle.printer.specs.Order.{Order, given, unchanged, store-after}
 use Rattle.printer.specs.Change.{update-fields}
+use Rattle.printer.specs.Messages.{valid-store}
 use Rattle.printer.specs.Receive.{obeyed, done, refusal, order}
 
 -- 01, Numbers: "Checked in this order; the first that applies is given, and none otherwise", whatever the order is.
@@ -29,7 +30,8 @@ numbered [] = true
 numbered (t ∷ ts) = both (leb 8 (t .otherwise .number)) (numbered ts)
 
 abbrev pub OrdersNumbered : Type 0
-OrdersNumbered = (p : Printer) (identifier : ℕ) (d : List ℕ) → numbered (order p identifier d .tests) ≡ true
+OrdersNumbered =
+    (p : Printer) (store : List ℕ) (identifier : ℕ) (d : List ℕ) → numbered (order p store identifier d .tests) ≡ true
 
 abbrev pub GivenExactly : Type 0
 GivenExactly =
@@ -43,7 +45,22 @@ pub record Keeps (p : Printer) (o : Order) : Type 0 where
   pub as-many : length (o .after .jets) ≡ length (p .jets)
 
 abbrev pub OrderKeeps : Type 0
-OrderKeeps = (p : Printer) (identifier : ℕ) (d : List ℕ) → length (p .jets) ≡ 4 → Keeps p (order p identifier d)
+OrderKeeps =
+    (p : Printer) (store : List ℕ) (identifier : ℕ) (d : List ℕ) →
+    length (p .jets) ≡ 4 →
+    valid-store store ≡ true →
+    Keeps p (order p store identifier d)
 
 abbrev pub UpdateKeeps : Type 0
 UpdateKeeps = (p : Printer) (text : List ℕ) → length (p .jets) ≡ 4 → Keeps p (update-fields p text)
+
+-- 02, Wish 1: storing "leaves the store well formed", and nothing else touches it.
+abbrev pub OrderStores : Type 0
+OrderStores =
+    (p : Printer) (store : List ℕ) (identifier : ℕ) (d : List ℕ) →
+    valid-store store ≡ true →
+    all (order p store identifier d .tests) ≡ true →
+    valid-store (store-after (order p store identifier d .store) store) ≡ true
+
+abbrev pub UpdateStores : Type 0
+UpdateStores = (p : Printer) (text : List ℕ) → update-fields p text .store ≡ unchanged

@@ -1,13 +1,13 @@
--- What document 01 promises of every outcome, as statements over the rules: a refusal keeps the state, what is accepted is acknowledged,
--- an answer fits the buffer that the box asks for, and the lengths handed back find answer and strips.
+-- What document 01 promises of every outcome, as statements over the rules: a refusal keeps the state and the store, what is accepted is
+-- acknowledged, an answer fits the buffer that the box asks for, and the lengths handed back find answer and strips.
 use Prim.Native.Nat.{ℕ, _+_, _<_, _≤_}
 use mathlib.Core.List.{List, [], _∷_}
 use mathlib.Core.Path.{_≡_}
 use lib.ListN.{length, getD, take, drop}
 use Rattle.printer.specs.State.{printer-of}
-use Rattle.printer.specs.Order.{no-strips}
+use Rattle.printer.specs.Order.{unchanged, no-strips}
 use Rattle.printer.specs.Answer.{ack, nack}
-use Rattle.printer.specs.Receive.{Handed, Outcome, outcome, kept, answer-size, Receives}
+use Rattle.printer.specs.Receive.{Handed, Outcome, outcome, kept, answer-size, handed, Receives}
 use Rattle.printer.specs.declared.answer.Answered.{Answered}
 
 -- 01, Numbers: "For 1 to 13 the state stays, as for a number added later, which consumes and answers like 13". 1, 2 and 3 consume
@@ -15,6 +15,7 @@ use Rattle.printer.specs.declared.answer.Answered.{Answered}
 pub record Refuses (m : List ℕ) (o : Outcome) : Type 0 where
   pub printer : o .printer ≡ printer-of m
   pub state : kept o m ≡ m
+  pub store : o .store ≡ unchanged
   pub strips : o .strips ≡ no-strips
   pub consumes-nothing : o .number < 4 → o .consumed ≡ 0
   pub answers-nothing : o .number < 4 → o .answer ≡ []
@@ -48,6 +49,6 @@ pub record Finds (o : Outcome) (r : Answered) (answer strips : List ℕ) : Type 
 
 abbrev pub LengthsTell : Type 0
 LengthsTell =
-    (m s answer strips : List ℕ) (r : Answered) (m′ answer′ strips′ : List ℕ) →
-    Receives m s answer strips r m′ answer′ strips′ →
-    Finds (outcome m (record { bytes = s; answer-room = length answer; strip-room = length strips })) r answer′ strips′
+    (m store s answer strips : List ℕ) (r : Answered) (m′ store′ answer′ strips′ : List ℕ) →
+    Receives m store s answer strips r m′ store′ answer′ strips′ →
+    Finds (outcome m (handed store s answer strips)) r answer′ strips′

@@ -10,9 +10,9 @@ use Rattle.content.specs.Strip.{strip}
 use Rattle.content.specs.declared.strip.Values.{Values}
 use Rattle.calendar.specs.Clock.{entries}
 use Rattle.printer.specs.Number.{digits}
-use Rattle.printer.specs.Jet.{Jet, has-jet, has-message, message, has-parameters, valid-jet, counted-jet}
+use Rattle.printer.specs.Jet.{Jet, has-message, message, has-parameters, valid-jet, counted-jet}
 use Rattle.printer.specs.State.{Printer, every-jet}
-use Rattle.printer.specs.Order.{Order}
+use Rattle.printer.specs.Order.{Order, unchanged}
 use Rattle.printer.specs.declared.jet.Question.{Question}
 use Rattle.printer.specs.declared.jet.Question.the-variants.{Valid, Ready}
 
@@ -44,7 +44,7 @@ abbrev pub counted-jets : Printer → Printer
 counted-jets p = record { model = p .model; clock = p .clock; jets = each (λ (n : ℕ) (j : Jet). counted-jet j) 1 (p .jets) }
 
 unfoldable pub print : Printer → Order
-print p = record { tests = test (ready p) 11 ∷ []; after = counted-jets p; frame = []; strips = strips p }
+print p = record { tests = test (ready p) 11 ∷ []; after = counted-jets p; store = unchanged; frame = []; strips = strips p }
 
 -- What is written of a jet: its strip, three times as long as a message of 512 bytes at the most.
 pub record PrintsJet (entries : List ℕ) (j : Jet) (before : List ℕ) (r : ℕ) (after : List ℕ) : Type 0 where

@@ -9,9 +9,10 @@ use Rattle.frame.specs.Receive.{received}
 use Rattle.frame.specs.declared.receive.Received.{Received}
 use Rattle.frame.specs.declared.receive.Received.the-variants.{Partial, Refused, Misfit, Enquiry, Update, Frame}
 use Rattle.printer.specs.State.{Printer, printer-of, bytes-of, valid-state}
-use Rattle.printer.specs.Order.{Order, change, no-strips}
+use Rattle.printer.specs.Order.{Order, StoreChange, unchanged, store-after, change, no-strips}
 use Rattle.printer.specs.Answer.{ack, nack}
 use Rattle.printer.specs.Change.{set-message, set-parameters, set-both, edit-message, update-fields}
+use Rattle.printer.specs.Messages.{valid-store, store-message, select-message}
 use Rattle.printer.specs.Request.{ask-counter, ask-message, ask-table, ask-clock}
 use Rattle.printer.specs.Print.{print}
 use Rattle.printer.specs.declared.answer.Answered.{Answered}
@@ -23,9 +24,10 @@ answer-size = 554
 abbrev pub strips-size : ℕ
 strips-size = 6144
 
--- What is handed in besides the state: the bytes, and the room of the two buffers.
+-- What is handed in besides the state: the bytes, the store, and the room of the two buffers.
 pub record Handed : Type 0 where
   pub bytes : List ℕ
+  pub store : List ℕ
   pub answer-room : ℕ
   pub strip-room : ℕ
 
@@ -36,28 +38,44 @@ pub record Outcome : Type 0 where
   pub answer : List ℕ
   pub strips : List (List ℕ)
   pub printer : Printer
+  pub store : StoreChange
 
 -- 01, Numbers, 1 to 3: nothing consumed, no answer.
 abbrev pub silent : Printer → ℕ → Outcome
-silent p number = record { number = number; consumed = 0; answer = []; strips = no-strips; printer = p }
+silent p number =
+    record { number = number; consumed = 0; answer = []; strips = no-strips; printer = p; store = unchanged }
 
--- 01, Numbers, 4 to 13: "15h", and "the state stays".
+-- 01, Numbers, 4 to 13: "15h", and "the state stays, as for a number added later".
 abbrev pub refusal : Printer → ℕ → ℕ → Outcome
 refusal p number consumed =
-    record { number = number; consumed = consumed; answer = nack ∷ []; strips = no-strips; printer = p }
+    record {
+      number = number;
+      consumed = consumed;
+      answer = nack ∷ [];
+      strips = no-strips;
+      printer = p;
+      store = unchanged;
+    }
 
 -- 01, Numbers, 0: "06h and any frame".
 abbrev pub done : Order → ℕ → Outcome
 done o consumed =
-    record { number = 0; consumed = consumed; answer = ack ∷ o .frame; strips = o .strips; printer = o .after }
+    record {
+      number = 0;
+      consumed = consumed;
+      answer = ack ∷ o .frame;
+      strips = o .strips;
+      printer = o .after;
+      store = o .store;
+    }
 
 -- An order is refused at its first test that fails, or done.
 unfoldable pub obeyed : Printer → Order → ℕ → Outcome
 obeyed p o consumed = checked (o .tests) (λ (r : Refusal). refusal p (r .number) consumed) (done o consumed)
 
 -- 01, On the wire, the table: the order of each identifier, in the table's order; the last row is D6h.
-unfoldable pub order : Printer → ℕ → List ℕ → Order
-order p identifier d =
+unfoldable pub printer-order : Printer → ℕ → List ℕ → Order
+printer-order p identifier d =
     pick (eqb identifier 0x0A) (set-message p d)
     (pick (eqb identifier 0x0B) (set-parameters p d)
     (pick (eqb identifier 0x0C) (set-both p d)
@@ -68,30 +86,42 @@ order p identifier d =
     (pick (eqb identifier 0x94) (print p)
     (ask-clock p))))))))
 
+-- 02, Wish 1: 1Ch and 40h, which need the store; all others are the printer's own.
+unfoldable pub order : Printer → List ℕ → ℕ → List ℕ → Order
+order p store identifier d =
+    pick (eqb identifier 0x1C) (store-message p store d)
+    (pick (eqb identifier 0x40) (select-message p store d)
+    (printer-order p identifier d))
+
 -- 01, On the wire: a 05h "is complete and answered 06h".
 abbrev pub enquire : Printer → Order
 enquire p = change [] p
 
--- What was received, in a valid state and with buffers of the stated size.
-abbrev pub handled : Printer → List ℕ → Received → Outcome
-handled p s Partial = silent p 3
-handled p s (Refused number consumed) = refusal p number consumed
-handled p s (Misfit number identifier n consumed) = refusal p number consumed
-handled p s Enquiry = obeyed p (enquire p) 1
-handled p s (Update n consumed) = obeyed p (update-fields p (take n (drop 1 s))) consumed
-handled p s (Frame identifier n consumed) = obeyed p (order p identifier (take n (drop 3 s))) consumed
+-- What was received, in a valid state, with a well-formed store and buffers of the stated size.
+abbrev pub handled : Printer → List ℕ → List ℕ → Received → Outcome
+handled p store s Partial = silent p 3
+handled p store s (Refused number consumed) = refusal p number consumed
+handled p store s (Misfit number identifier n consumed) = refusal p number consumed
+handled p store s Enquiry = obeyed p (enquire p) 1
+handled p store s (Update n consumed) = obeyed p (update-fields p (take n (drop 1 s))) consumed
+handled p store s (Frame identifier n consumed) = obeyed p (order p store identifier (take n (drop 3 s))) consumed
 
--- 01, Numbers: 1 "state not valid", then 2 "answer buffer under 554 or strip buffer under 6,144 bytes", then the rest.
+-- 01, Numbers: 1 "state not valid", then 2 "answer buffer under 554 or strip buffer under 6,144 bytes", then the rest. 02, Wish 1: "a store
+-- that isn't well formed is a state not valid".
 abbrev pub handing-tests : List ℕ → Handed → List Test
 handing-tests m h =
-    test (valid-state m) 1 ∷ test (leb answer-size (h .answer-room)) 2 ∷ test (leb strips-size (h .strip-room)) 2 ∷ []
+    test (valid-state m) 1
+    ∷ test (valid-store (h .store)) 1
+    ∷ test (leb answer-size (h .answer-room)) 2
+    ∷ test (leb strips-size (h .strip-room)) 2
+    ∷ []
 
 unfoldable pub outcome : List ℕ → Handed → Outcome
 outcome m h =
     checked
     (handing-tests m h)
     (λ (r : Refusal). silent (printer-of m) (r .number))
-    (handled (printer-of m) (h .bytes) (received (h .bytes)))
+    (handled (printer-of m) (h .store) (h .bytes) (received (h .bytes)))
 
 -- The bytes of the state behind an outcome: "For 1 to 13 the state stays".
 abbrev pub kept : Outcome → List ℕ → List ℕ
@@ -108,15 +138,15 @@ pub record Meets (o : Outcome) (m answer strips : List ℕ) (r : Answered) (m′
   pub answer-bytes : answer′ ≡ over (o .answer) answer
   pub strip-bytes : strips′ ≡ over (joined (o .strips)) strips
 
+-- The same, and what becomes of the store.
+pub record Fulfils (o : Outcome) (m store answer strips : List ℕ) (r : Answered) (m′ store′ answer′ strips′ : List ℕ) : Type 0 where
+  pub meets : Meets o m answer strips r m′ answer′ strips′
+  pub stores : store′ ≡ store-after (o .store) store
+
 -- The contract of `receive`.
-pub record Receives (m s answer strips : List ℕ) (r : Answered) (m′ answer′ strips′ : List ℕ) : Type 0 where
-  pub meets :
-      Meets
-      (outcome m (record { bytes = s; answer-room = length answer; strip-room = length strips }))
-      m
-      answer
-      strips
-      r
-      m′
-      answer′
-      strips′
+abbrev pub handed : List ℕ → List ℕ → List ℕ → List ℕ → Handed
+handed store s answer strips =
+    record { bytes = s; store = store; answer-room = length answer; strip-room = length strips }
+
+pub record Receives (m store s answer strips : List ℕ) (r : Answered) (m′ store′ answer′ strips′ : List ℕ) : Type 0 where
+  pub fulfils : Fulfils (outcome m (handed store s answer strips)) m store answer strips r m′ store′ answer′ strips′

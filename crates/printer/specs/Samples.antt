@@ -1,6 +1,7 @@
 -- The samples of document 01 that are marked P, in one list: what is fed in, and what must come out.
 use Prim.Native.Nat.{ℕ, _+_}
 use mathlib.Core.List.{List, [], _∷_, _++_}
+use lib.ListN.{replicate}
 use Rattle.frame.specs.Build.{frame}
 use Rattle.content.specs.Content.{tested}
 use Rattle.printer.specs.Jet.{message}
@@ -13,9 +14,10 @@ pub data Sample : Type 0 where
   sent : List (List ℕ) → ℕ → List ℕ → Sample
   tried : List ℕ → ℕ → Sample
 
--- What a state makes of one frame, with buffers of the stated size.
+-- What a state makes of one frame, with an empty store and buffers of the stated size.
 abbrev pub receives : List ℕ → List ℕ → Outcome
-receives m s = outcome m (record { bytes = s; answer-room = answer-size; strip-room = strips-size })
+receives m s =
+    outcome m (record { bytes = s; store = replicate 8192 0x00; answer-room = answer-size; strip-room = strips-size })
 
 -- The last number and the message of jet 1, when frames are sent one after the other.
 abbrev pub sending : ℕ → List ℕ → List (List ℕ) → (ℕ × List ℕ)

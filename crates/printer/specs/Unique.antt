@@ -4,6 +4,7 @@ use mathlib.Core.List.{List}
 use mathlib.Core.Path.{_≡_}
 use Rattle.frame.specs.Ground.{OneOutcome}
 use Rattle.printer.specs.Order.{Order, Obeys}
+use Rattle.printer.specs.Messages.{Shows}
 use Rattle.printer.specs.Receive.{Receives}
 use Rattle.printer.specs.Call.{Freshens, set-clock, tick-clock}
 use Rattle.calendar.specs.declared.clock.Clock.{Clock}
@@ -23,10 +24,15 @@ SetClockUnique = (m : List ℕ) (clock : Clock) → OneOutcome (Obeys (set-clock
 abbrev pub TickUnique : Type 0
 TickUnique = (m : List ℕ) → OneOutcome (Obeys (tick-clock m) m)
 
--- `receive`: number, count, answer's length and strips' lengths are one answer; then the bytes of the state and of the two buffers.
+-- `receive`: number, count, answer's length and strips' lengths are one answer; then the bytes of the state, of the store and of the two
+-- buffers.
 abbrev pub ReceivesUnique : Type 0
 ReceivesUnique =
-    (m s answer strips : List ℕ) (r r′ : Answered) (m′ m″ answer′ answer″ strips′ strips″ : List ℕ) →
-    Receives m s answer strips r m′ answer′ strips′ →
-    Receives m s answer strips r′ m″ answer″ strips″ →
-    (r ≡ r′) × (m′ ≡ m″) × (answer′ ≡ answer″) × (strips′ ≡ strips″)
+    (m store s answer strips : List ℕ) (r r′ : Answered) (m′ m″ store′ store″ answer′ answer″ strips′ strips″ : List ℕ) →
+    Receives m store s answer strips r m′ store′ answer′ strips′ →
+    Receives m store s answer strips r′ m″ store″ answer″ strips″ →
+    (r ≡ r′) × (m′ ≡ m″) × (store′ ≡ store″) × (answer′ ≡ answer″) × (strips′ ≡ strips″)
+
+-- `shown`: the number, and the bytes handed back.
+abbrev pub ShowsUnique : Type 0
+ShowsUnique = (store current : List ℕ) (n : ℕ) → OneOutcome (Shows store current n)

@@ -7,6 +7,9 @@ use crate::answer::silent;
 use crate::change::Change;
 use crate::change::change_order;
 use crate::change::update_fields;
+use crate::messages::select_message;
+use crate::messages::store_message;
+use crate::messages::valid_store;
 use crate::print::print;
 use crate::request::Request;
 use crate::request::ask_clock;
@@ -21,11 +24,12 @@ ghost use mathlib.Core.Bool.{true};
 ghost use mathlib.Core.Path.{_≡_};
 ghost use Rattle.frame.specs.Receive.{received};
 ghost use Rattle.frame.specs.Wire.{fits, size-of};
-ghost use Rattle.printer.specs.Receive.{answer-size, handled, Meets, obeyed, order, Receives, strips-size};
+ghost use Rattle.printer.specs.Messages.{valid-store};
+ghost use Rattle.printer.specs.Receive.{Fulfils, Meets, Receives, answer-size, handled, obeyed, order, printer-order, strips-size};
 ghost use Rattle.printer.specs.State.{printer-of, valid-state};
 
-// A frame, by its identifier in the table's order.
-fn obey(
+// A frame that needs no store, by its identifier in the table's order.
+fn obey_printer(
     state: &mut [u8],
     identifier: u8,
     d: &[u8],
@@ -34,7 +38,7 @@ fn obey(
     strips: &mut [u8],
 ) -> Answered
     requires { ⌜ (valid-state (now state) ≡ true) × (answer-size ≤ length (now answer)) × (strips-size ≤ length (now strips)) × (fits (size-of identifier) (length (now d)) ≡ true) ⌝ }
-    ensures { λ r. ⌜ Meets (obeyed (printer-of (now (state .entry))) (order (printer-of (now (state .entry))) identifier (now (d .entry))) consumed) (now (state .entry)) (now (answer .entry)) (now (strips .entry)) r (now (state .exit)) (now (answer .exit)) (now (strips .exit)) ⌝ }
+    ensures { λ r. ⌜ Meets (obeyed (printer-of (now (state .entry))) (printer-order (printer-of (now (state .entry))) identifier (now (d .entry))) consumed) (now (state .entry)) (now (answer .entry)) (now (strips .entry)) r (now (state .exit)) (now (answer .exit)) (now (strips .exit)) ⌝ }
 {
     if identifier == 0x0A {
         return settle(change_order(state, Change::Message, d), consumed, 0, answer);
@@ -77,10 +81,38 @@ fn obey(
     settle(told.number, consumed, told.size, answer)
 }
 
-// In a valid state, with buffers of the stated size: nothing is tested again.
-pub(crate) fn handle(state: &mut [u8], s: &[u8], answer: &mut [u8], strips: &mut [u8]) -> Answered
-    requires { ⌜ (valid-state (now state) ≡ true) × (answer-size ≤ length (now answer)) × (strips-size ≤ length (now strips)) ⌝ }
-    ensures { λ r. ⌜ Meets (handled (printer-of (now (state .entry))) (now (s .entry)) (received (now (s .entry)))) (now (state .entry)) (now (answer .entry)) (now (strips .entry)) r (now (state .exit)) (now (answer .exit)) (now (strips .exit)) ⌝ }
+// A frame, by its identifier.
+fn obey(
+    state: &mut [u8],
+    store: &mut [u8],
+    identifier: u8,
+    d: &[u8],
+    consumed: usize,
+    answer: &mut [u8],
+    strips: &mut [u8],
+) -> Answered
+    requires { ⌜ (valid-state (now state) ≡ true) × (valid-store (now store) ≡ true) × (answer-size ≤ length (now answer)) × (strips-size ≤ length (now strips)) × (fits (size-of identifier) (length (now d)) ≡ true) ⌝ }
+    ensures { λ r. ⌜ Fulfils (obeyed (printer-of (now (state .entry))) (order (printer-of (now (state .entry))) (now (store .entry)) identifier (now (d .entry))) consumed) (now (state .entry)) (now (store .entry)) (now (answer .entry)) (now (strips .entry)) r (now (state .exit)) (now (store .exit)) (now (answer .exit)) (now (strips .exit)) ⌝ }
+{
+    if identifier == 0x1C {
+        return settle(store_message(store, d), consumed, 0, answer);
+    }
+    if identifier == 0x40 {
+        return settle(select_message(state, store, d), consumed, 0, answer);
+    }
+    obey_printer(state, identifier, d, consumed, answer, strips)
+}
+
+// In a valid state, with a well-formed store and buffers of the stated size: nothing is tested again.
+pub(crate) fn handle(
+    state: &mut [u8],
+    store: &mut [u8],
+    s: &[u8],
+    answer: &mut [u8],
+    strips: &mut [u8],
+) -> Answered
+    requires { ⌜ (valid-state (now state) ≡ true) × (valid-store (now store) ≡ true) × (answer-size ≤ length (now answer)) × (strips-size ≤ length (now strips)) ⌝ }
+    ensures { λ r. ⌜ Fulfils (handled (printer-of (now (state .entry))) (now (store .entry)) (now (s .entry)) (received (now (s .entry)))) (now (state .entry)) (now (store .entry)) (now (answer .entry)) (now (strips .entry)) r (now (state .exit)) (now (store .exit)) (now (answer .exit)) (now (strips .exit)) ⌝ }
 {
     let found = received(s);
     match found {
@@ -103,15 +135,32 @@ pub(crate) fn handle(state: &mut [u8], s: &[u8], answer: &mut [u8], strips: &mut
             identifier,
             size,
             consumed,
-        } => obey(state, identifier, &s[3..3 + size], consumed, answer, strips),
+        } => obey(
+            state,
+            store,
+            identifier,
+            &s[3..3 + size],
+            consumed,
+            answer,
+            strips,
+        ),
     }
 }
 
-// Takes the bytes handed in since the last one consumed; all buffers keep every byte that is not written.
-pub fn receive(state: &mut [u8], s: &[u8], answer: &mut [u8], strips: &mut [u8]) -> Answered
-    ensures { λ r. ⌜ Receives (now (state .entry)) (now (s .entry)) (now (answer .entry)) (now (strips .entry)) r (now (state .exit)) (now (answer .exit)) (now (strips .exit)) ⌝ }
+// Takes the bytes handed in since the last one consumed; state, store and buffers keep every byte that is not written.
+pub fn receive(
+    state: &mut [u8],
+    store: &mut [u8],
+    s: &[u8],
+    answer: &mut [u8],
+    strips: &mut [u8],
+) -> Answered
+    ensures { λ r. ⌜ Receives (now (state .entry)) (now (store .entry)) (now (s .entry)) (now (answer .entry)) (now (strips .entry)) r (now (state .exit)) (now (store .exit)) (now (answer .exit)) (now (strips .exit)) ⌝ }
 {
     if !valid_state(state) {
+        return silent(1);
+    }
+    if !valid_store(store) {
         return silent(1);
     }
     if answer.len() < ANSWER {
@@ -120,5 +169,5 @@ pub fn receive(state: &mut [u8], s: &[u8], answer: &mut [u8], strips: &mut [u8])
     if strips.len() < STRIPS {
         return silent(2);
     }
-    handle(state, s, answer, strips)
+    handle(state, store, s, answer, strips)
 }

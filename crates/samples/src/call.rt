@@ -16,11 +16,14 @@ use printer::call::set_clock;
 use printer::call::tick;
 use printer::receive::receive;
 
-// The room for a state, and what of it and of the buffers is handed in.
+// The room for a state and for a store, and what of them and of the buffers is handed in.
 pub(crate) const ROOM: usize = 2_304;
+
+pub(crate) const SPACE: usize = 8_256;
 
 pub(crate) struct Rooms {
     pub state: usize,
+    pub store: usize,
     pub answer: usize,
     pub strips: usize,
 }
@@ -40,18 +43,23 @@ fn impossible() -> Answered {
     }
 }
 
-// The box, with so much of the state and of the buffers as the rooms say.
+// The box, with so much of the state, of the store and of the buffers as the rooms say.
 fn handed_in(
     state: &mut [u8],
+    store: &mut [u8],
     s: &[u8],
     answer: &mut [u8],
     strips: &mut [u8],
     rooms: Rooms,
 ) -> Answered {
     let n = rooms.state;
+    let m = rooms.store;
     let a = rooms.answer;
     let b = rooms.strips;
     if state.len() < n {
+        return impossible();
+    }
+    if store.len() < m {
         return impossible();
     }
     if answer.len() < a {
@@ -60,7 +68,13 @@ fn handed_in(
     if strips.len() < b {
         return impossible();
     }
-    receive(&mut state[0..n], s, &mut answer[0..a], &mut strips[0..b])
+    receive(
+        &mut state[0..n],
+        &mut store[0..m],
+        s,
+        &mut answer[0..a],
+        &mut strips[0..b],
+    )
 }
 
 // A jet's strip of so many bytes, from a place of the strip buffer on; hands back the place behind it.
@@ -108,12 +122,13 @@ fn show_answer(answer: &mut [u8], done: Answered) {
 // Bytes handed in: the number, the count consumed, the answer, and the strips that were written.
 pub(crate) fn hand_in(
     state: &mut [u8],
+    store: &mut [u8],
     s: &[u8],
     answer: &mut [u8],
     strips: &mut [u8],
     rooms: Rooms,
 ) {
-    let done = handed_in(state, s, answer, strips, rooms);
+    let done = handed_in(state, store, s, answer, strips, rooms);
     show_answer(answer, done);
     let lengths = done.strips;
     let end = all_strips(strips, lengths);
@@ -122,8 +137,9 @@ pub(crate) fn hand_in(
 
 // The frame of an identifier and data, which stand in a row, handed in.
 pub(crate) fn frame(
-    state: &mut [u8],
     s: &[u8],
+    state: &mut [u8],
+    store: &mut [u8],
     answer: &mut [u8],
     strips: &mut [u8],
     rooms: Rooms,
@@ -138,7 +154,7 @@ pub(crate) fn frame(
             text(b" not built");
             number(k);
         }
-        Built::Written(n) => hand_in(state, front(&out, n), answer, strips, rooms),
+        Built::Written(n) => hand_in(state, store, front(&out, n), answer, strips, rooms),
     }
 }
 
@@ -169,19 +185,31 @@ pub(crate) fn pass(state: &mut [u8], rooms: Rooms) {
     number(tick(&mut state[0..n]));
 }
 
+// The numbers for 05h and for no bytes.
+fn both_numbers(
+    state: &mut [u8],
+    store: &mut [u8],
+    answer: &mut [u8],
+    strips: &mut [u8],
+    rooms: Rooms,
+) {
+    let enquiry = handed_in(state, store, b"\x05", answer, strips, rooms);
+    number(enquiry.number);
+    clear(answer, enquiry.answer);
+    let nothing = handed_in(state, store, b"", answer, strips, rooms);
+    number(nothing.number);
+}
+
 // A state in each call: the numbers for 05h, for no bytes, for setting a moment that is not real, and for a tick.
 pub(crate) fn every_call(
     state: &mut [u8],
+    store: &mut [u8],
     answer: &mut [u8],
     strips: &mut [u8],
     rooms: Rooms,
     unreal: Clock,
 ) {
-    let enquiry = handed_in(state, b"\x05", answer, strips, rooms);
-    number(enquiry.number);
-    clear(answer, enquiry.answer);
-    let nothing = handed_in(state, b"", answer, strips, rooms);
-    number(nothing.number);
+    both_numbers(state, store, answer, strips, rooms);
     set(state, rooms, unreal);
     pass(state, rooms);
 }

@@ -2,6 +2,7 @@
 use crate::call::ANSWERS;
 use crate::call::ROOM;
 use crate::call::Rooms;
+use crate::call::SPACE;
 use crate::call::STRIPS;
 use crate::call::every_call;
 use crate::call::frame;
@@ -21,6 +22,8 @@ use crate::lower::show_put;
 use crate::lower::show_strip;
 use crate::lower::show_update;
 use crate::lower::show_wrap;
+use crate::shelf::asked;
+use crate::shelf::prepared;
 use crate::show::UNWRITTEN;
 use crate::show::front;
 use crate::show::same;
@@ -36,6 +39,7 @@ use calendar::clock::Clock;
 use calendar::clock::Date;
 use content::byte::within;
 use frame::build::lay;
+use library::store::STORE;
 use printer::answer::ANSWER;
 use printer::answer::STRIPS as STRIP_BUFFER;
 use printer::state::STATE;
@@ -70,11 +74,18 @@ fn is_word(b: u8) -> bool {
 }
 
 // The bytes of a line go into a call.
-fn with_bytes(line: &[u8], state: &mut [u8], answer: &mut [u8], strips: &mut [u8], rooms: Rooms) {
+fn with_bytes(
+    line: &[u8],
+    state: &mut [u8],
+    store: &mut [u8],
+    rooms: Rooms,
+    answer: &mut [u8],
+    strips: &mut [u8],
+) {
     let mut s = [BEHIND; BYTES];
     if begins(line, b"frame") {
         let n = bytes_in(line, 1, &mut s);
-        frame(state, front(&s, n), answer, strips, rooms);
+        frame(front(&s, n), state, store, answer, strips, rooms);
         return;
     }
     if begins(line, b"test") {
@@ -83,7 +94,7 @@ fn with_bytes(line: &[u8], state: &mut [u8], answer: &mut [u8], strips: &mut [u8
         return;
     }
     if begins(line, b"nothing") {
-        hand_in(state, b"", answer, strips, rooms);
+        hand_in(state, store, b"", answer, strips, rooms);
         return;
     }
     if is_word(byte_at(line, 0)) {
@@ -91,7 +102,7 @@ fn with_bytes(line: &[u8], state: &mut [u8], answer: &mut [u8], strips: &mut [u8
         return;
     }
     let n = bytes_in(line, 0, &mut s);
-    hand_in(state, front(&s, n), answer, strips, rooms);
+    hand_in(state, store, front(&s, n), answer, strips, rooms);
 }
 
 // Bytes of the state, overwritten from a place on.
@@ -106,7 +117,14 @@ fn poke(line: &[u8], state: &mut [u8]) {
 }
 
 // The same, and the state in each call; then those bytes are as before.
-fn damage(line: &[u8], state: &mut [u8], answer: &mut [u8], strips: &mut [u8], rooms: Rooms) {
+fn damage(
+    line: &[u8],
+    rooms: Rooms,
+    state: &mut [u8],
+    store: &mut [u8],
+    answer: &mut [u8],
+    strips: &mut [u8],
+) {
     let at = number(line, 1);
     if state.len() < at {
         return;
@@ -114,7 +132,14 @@ fn damage(line: &[u8], state: &mut [u8], answer: &mut [u8], strips: &mut [u8], r
     let mut before = [0; DAMAGE];
     lay(&mut before, front(&state[at..], DAMAGE));
     poke(line, state);
-    every_call(state, answer, strips, rooms, moment(b"0 0 0 0 0 0", 0));
+    every_call(
+        state,
+        store,
+        answer,
+        strips,
+        rooms,
+        moment(b"0 0 0 0 0 0", 0),
+    );
     lay(&mut state[at..], front(&before, DAMAGE));
 }
 
@@ -177,7 +202,14 @@ fn lower(line: &[u8]) {
 }
 
 // A line that makes a call.
-fn obey(line: &[u8], state: &mut [u8], answer: &mut [u8], strips: &mut [u8], rooms: Rooms) {
+fn obey(
+    line: &[u8],
+    state: &mut [u8],
+    store: &mut [u8],
+    answer: &mut [u8],
+    strips: &mut [u8],
+    rooms: Rooms,
+) {
     if begins(line, b"fresh") {
         start(state, rooms, small(line, 1), moment(line, 2));
         return;
@@ -191,16 +223,30 @@ fn obey(line: &[u8], state: &mut [u8], answer: &mut [u8], strips: &mut [u8], roo
         return;
     }
     if begins(line, b"damage") {
-        damage(line, state, answer, strips, rooms);
+        damage(line, rooms, state, store, answer, strips);
         return;
     }
-    with_bytes(line, state, answer, strips, rooms);
+    if asked(line, store, rooms) {
+        return;
+    }
+    with_bytes(line, state, store, rooms, answer, strips);
 }
 
-// Whether the state is the one that was kept, and no byte of the buffers is written.
-fn all_same(state: &[u8], kept: &[u8], answer: &[u8], strips: &[u8]) {
+// Whether state and store are those that were kept, and no byte of the buffers is written.
+fn all_same(
+    state: &[u8],
+    store: &[u8],
+    kept: &[u8],
+    kept_store: &[u8],
+    answer: &[u8],
+    strips: &[u8],
+) {
     if !same(state, kept) {
         text(b" no, the state");
+        return;
+    }
+    if !same(store, kept_store) {
+        text(b" no, the store");
         return;
     }
     if !unwritten(answer, 0) {
@@ -218,13 +264,19 @@ fn all_same(state: &[u8], kept: &[u8], answer: &[u8], strips: &[u8]) {
 fn act(
     line: &[u8],
     state: &mut [u8],
+    store: &mut [u8],
+    rooms: Rooms,
     kept: &mut [u8],
+    kept_store: &mut [u8],
     answer: &mut [u8],
     strips: &mut [u8],
-    rooms: Rooms,
 ) {
     if begins(line, b"keep") {
         lay(kept, state);
+        lay(kept_store, store);
+        return;
+    }
+    if prepared(line, store, kept_store) {
         return;
     }
     if begins(line, b"poke") {
@@ -233,10 +285,10 @@ fn act(
     }
     text(b" =");
     if begins(line, b"same") {
-        all_same(state, kept, answer, strips);
+        all_same(state, store, kept, kept_store, answer, strips);
         return;
     }
-    obey(line, state, answer, strips, rooms);
+    obey(line, state, store, answer, strips, rooms);
 }
 
 // The rooms from a line on.
@@ -244,12 +296,22 @@ fn rooms_from(line: &[u8], rooms: Rooms) -> Rooms {
     if begins(line, b"size") {
         return Rooms {
             state: number(line, 1),
+            store: rooms.store,
+            answer: rooms.answer,
+            strips: rooms.strips,
+        };
+    }
+    if begins(line, b"store") {
+        return Rooms {
+            state: rooms.state,
+            store: number(line, 1),
             answer: rooms.answer,
             strips: rooms.strips,
         };
     }
     Rooms {
         state: rooms.state,
+        store: rooms.store,
         answer: number(line, 1),
         strips: number(line, 2),
     }
@@ -282,6 +344,9 @@ fn is_room(line: &[u8]) -> bool {
     if begins(line, b"size") {
         return true;
     }
+    if begins(line, b"store") {
+        return true;
+    }
     begins(line, b"rooms")
 }
 
@@ -289,7 +354,9 @@ fn is_room(line: &[u8]) -> bool {
 fn turn(
     line: &[u8],
     state: &mut [u8],
+    store: &mut [u8],
     kept: &mut [u8],
+    kept_store: &mut [u8],
     answer: &mut [u8],
     strips: &mut [u8],
     rooms: Rooms,
@@ -303,18 +370,21 @@ fn turn(
         text(b"\n");
         return rooms_from(line, rooms);
     }
-    act(line, state, kept, answer, strips, rooms);
+    act(line, state, store, rooms, kept, kept_store, answer, strips);
     text(b"\n");
     rooms
 }
 
 pub(crate) fn run(s: &[u8]) {
     let mut state = [UNWRITTEN; ROOM];
+    let mut store = [UNWRITTEN; SPACE];
     let mut kept = [0; ROOM];
+    let mut kept_store = [0; SPACE];
     let mut answer = [UNWRITTEN; ANSWERS];
     let mut strips = [UNWRITTEN; STRIPS];
     let mut rooms = Rooms {
         state: STATE,
+        store: STORE,
         answer: ANSWER,
         strips: STRIP_BUFFER,
     };
@@ -324,7 +394,9 @@ pub(crate) fn run(s: &[u8]) {
         rooms = turn(
             &s[at..end],
             &mut state,
+            &mut store,
             &mut kept,
+            &mut kept_store,
             &mut answer,
             &mut strips,
             rooms,

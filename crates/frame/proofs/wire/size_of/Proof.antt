@@ -42,7 +42,15 @@ returns-9 c = rw (c .match .keys9)
 
 returns-10 : tie.Need-returns-10
 unfolding size-of
-returns-10 c = search tests
+returns-10 c = rw (c .match .keys10)
+
+returns-11 : tie.Need-returns-11
+unfolding size-of
+returns-11 c = rw (c .match .keys11)
+
+returns-12 : tie.Need-returns-12
+unfolding size-of
+returns-12 c = search tests
 
 pub size-of-spec : {M : Type 1} → statement M
-size-of-spec = tie.close (tie.spec returns returns-2 returns-3 returns-4 returns-5 returns-6 returns-7 returns-8 returns-9 returns-10)
+size-of-spec = tie.close (tie.spec returns returns-2 returns-3 returns-4 returns-5 returns-6 returns-7 returns-8 returns-9 returns-10 returns-11 returns-12)

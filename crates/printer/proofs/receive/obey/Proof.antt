@@ -1,307 +1,102 @@
--- `printer::receive::obey` meets its contract: by its identifier a frame is one order of the table, whose function answers for it; the table gives the length of its data.
-use Prim.Native.Nat.{ℕ, _-_, _≤_}
-use mathlib.Core.Bool.{true}
+-- `printer::receive::obey` meets its contract: 1Ch and 40h are orders with the store, and every other frame is one of the printer's own, which leave the store alone.
+use Prim.Native.Nat.{ℕ}
 use mathlib.Core.List.{List}
-use mathlib.Core.Path.{_≡_, ap, subst}
+use mathlib.Core.Path.{_≡_, ap}
 use native.Mathlib.Omega.{arith}
 use borrow.Author.Needs.{needs}
-use borrow.Author.Tests.{leb-true, eqb-true}
-use borrow.Rule.Slice.PartMut.{midOf, putMid}
-use lib.Dec.{eqb}
-use lib.ListN.{length, length-drop}
-use Rattle.frame.specs.Wire.{fits, size-of}
-use Rattle.frame.proofs.Ground.{tests, lent-tail}
-use Rattle.printer.specs.State.{Printer, printer-of, valid-state}
-use Rattle.printer.specs.Order.{Order, Obeys}
-use Rattle.printer.specs.Change.{set-message, set-parameters, set-both, edit-message}
-use Rattle.printer.specs.Request.{ask-counter, ask-message, ask-table, ask-clock}
-use Rattle.printer.specs.Answer.{Settles, TellsOrder}
-use Rattle.printer.specs.Receive.{Meets, obeyed, order}
-use Rattle.printer.specs.declared.answer.Answered.{Answered}
-use Rattle.printer.specs.declared.change.Change.the-variants.{Message, Parameters, Both, Characters}
-use Rattle.printer.specs.declared.request.Request.the-variants as request
-use Rattle.printer.specs.declared.request.Told.{Told}
-use Rattle.printer.proofs.Numbers.{Bytes}
+use borrow.Author.Tests.{leb-true}
+use lib.ListN.{length}
+use Rattle.frame.specs.Wire.{size-of}
+use Rattle.frame.proofs.Ground.{tests}
+use Rattle.printer.specs.State.{Printer, printer-of}
+use Rattle.printer.specs.Order.{Order}
+use Rattle.printer.specs.Messages.{store-message, select-message}
+use Rattle.printer.specs.Receive.{obeyed, order, printer-order}
 use Rattle.printer.proofs.Memory.{state-back}
-use Rattle.printer.proofs.Said.{Changes, Asks, meets-same, meets-changed, meets-told, told-fits, change-changes, request-asks, table-asks, clock-asks}
 use Rattle.printer.proofs.Valid.{valid-size}
+use Rattle.printer.proofs.OrderLaws.{printer-unchanged}
+use Rattle.printer.proofs.Said.{meets-changed, fulfils-same, fulfils-obeyed, fulfils-stored, row, exactly, select-changes, select-unchanged}
 use Rattle.printer.proofs.receive.obey.Statement.{statement}
 use Rattle.printer.proofs.receive.obey.Tie as tie
 
--- A row of the table, and the length that it gives.
-row : (identifier k n : ℕ) → identifier ≡ k → fits (size-of identifier) n ≡ true → fits (size-of k) n ≡ true
-row identifier k n e h = subst (λ (i : ℕ). fits (size-of i) n ≡ true) e h
-
--- The order of a row.
-changed : (m : List ℕ) {identifier : ℕ} (k : ℕ) (d : List ℕ) {number consumed : ℕ} {answer : List ℕ} (strips : List ℕ) {a : Answered} {m′ answer′ : List ℕ} → identifier ≡ k
-    → Changes (order (printer-of m) k d) → 554 ≤ length answer → Obeys (order (printer-of m) k d) m number m′ → Settles number consumed 0 answer a answer′
-    → Meets (obeyed (printer-of m) (order (printer-of m) identifier d) consumed) m answer strips a m′ answer′ strips
-changed m k d {consumed = consumed} strips e x h o s =
-    meets-same (ap (λ (i : ℕ). obeyed (printer-of m) (order (printer-of m) i d) consumed) e)
-    (meets-changed (printer-of m) (order (printer-of m) k d) strips x (omega arith) o s)
-
-asked : (m : List ℕ) (identifier k : ℕ) (d : List ℕ) {consumed : ℕ} {answer : List ℕ} (strips : List ℕ) {t : Told} {last : List ℕ} {a : Answered} {answer′ : List ℕ}
-    → order (printer-of m) identifier d ≡ order (printer-of m) k d → Asks (printer-of m) (order (printer-of m) k d) → valid-state m ≡ true → Bytes m → 554 ≤ length answer
-    → TellsOrder (order (printer-of m) k d) (midOf 1 (length answer - 1) answer) t last → Settles (t .number) consumed (t .size) (putMid 1 (length answer - 1) answer last) a answer′
-    → Meets (obeyed (printer-of m) (order (printer-of m) identifier d) consumed) m answer strips a m answer′ strips
-asked m identifier k d {consumed = consumed} strips e x v f h o s =
-    meets-same (ap (λ (o : Order). obeyed (printer-of m) o consumed) e)
-    (meets-told (printer-of m) (order (printer-of m) k d) strips x (state-back m (valid-size m v) f) (omega arith) o s)
-
-at-row : (p : Printer) {identifier : ℕ} (k : ℕ) (d : List ℕ) → identifier ≡ k → order p identifier d ≡ order p k d
-at-row p k d e = ap (λ (i : ℕ). order p i d) e
-
-last-row : (p : Printer) (identifier : ℕ) (d : List ℕ) → (identifier ≡ 0x0A → ⊥) → (identifier ≡ 0x0B → ⊥) → (identifier ≡ 0x0C → ⊥) → (identifier ≡ 0x39 → ⊥) → (identifier ≡ 0x42 → ⊥)
-    → (identifier ≡ 0x43 → ⊥) → (identifier ≡ 0x52 → ⊥) → (identifier ≡ 0x94 → ⊥) → order p identifier d ≡ order p 0xD6 d
+stores : (p : Printer) (store : List ℕ) {identifier : ℕ} (d : List ℕ) → identifier ≡ 0x1C → order p store identifier d ≡ store-message p store d
 unfolding order
-last-row p identifier d n₁ n₂ n₃ n₄ n₅ n₆ n₇ n₈ = search tests
+stores p store d e = search tests
 
-room : (answer : List ℕ) → 554 ≤ length answer → 553 ≤ length (midOf 1 (length answer - 1) answer)
-room answer h = rw lent-tail (simp length-drop (omega arith))
+selects : (p : Printer) (store : List ℕ) {identifier : ℕ} (d : List ℕ) → (identifier ≡ 0x1C → ⊥) → identifier ≡ 0x40 → order p store identifier d ≡ select-message p store d
+unfolding order
+selects p store d n e = search tests
 
-exactly : {n k : ℕ} → eqb n k ≡ true → k ≤ n
-exactly {n} {k} h = let e = eqb-true n k h in omega arith
+others : (p : Printer) (store : List ℕ) (identifier : ℕ) (d : List ℕ) → (identifier ≡ 0x1C → ⊥) → (identifier ≡ 0x40 → ⊥) → order p store identifier d ≡ printer-order p identifier d
+unfolding order
+others p store identifier d n₁ n₂ = search tests
 
-change-order-requires : tie.Need-change-order-requires
+store-message-requires : tie.Need-store-message-requires
 unfolding size-of
-change-order-requires c κs =
-    let at-start = c .before .before .before .before .before .before in
-    (at-start .pre .0, leb-true 2 _ (row (at-start .args .identifier) 0x0A (length (at-start .args .d .now)) (c .before .if1 .taken) (at-start .pre .3)))
+store-message-requires c κs =
+    let at-start = c .before .before .before .before .before .before .before in
+    (at-start .pre .1, leb-true 39 _ (row (at-start .args .identifier) 0x1C (length (at-start .args .d .now)) (c .before .if1 .taken) (at-start .pre .4)))
 
 returns : tie.Need-returns
-unfolding order set-message
 returns c =
     let at-settle = c .before .before in
-    let at-change-order = at-settle .before .before .before .before in
-    let at-if1 = at-change-order .before .before in
-    let at-start = at-if1 .before .before .before .before .before in
-    changed (at-start .args .state .now) 0x0A (at-start .args .d .now) (at-start .args .strips .now) (at-if1 .if1 .taken) (change-changes Message (printer-of (at-start .args .state .now)) (at-start .args .d .now)) (at-start .pre .1)
-    (at-change-order .change-order .ensures) (at-settle .settle .ensures)
+    let at-store-message = at-settle .before .before .before .before in
+    let at-if1 = at-store-message .before .before in
+    let at-slice-known = at-if1 .before .before .before .before .before in
+    let at-start = at-slice-known .before in
+    fulfils-same (ap (λ (o : Order). obeyed (printer-of (at-start .args .state .now)) o (at-start .args .consumed)) (stores (printer-of (at-start .args .state .now)) (at-start .args .store .now) (at-start .args .d .now) (at-if1 .if1 .taken)))
+    (fulfils-stored (printer-of (at-start .args .state .now)) (at-start .args .store .now) (at-start .args .d .now) (at-start .args .strips .now) (state-back (at-start .args .state .now) (valid-size _ (at-start .pre .0)) (at-slice-known .slice-known .given)) (omega arith) (at-store-message .store-message .ensures) (at-settle .settle .ensures))
 
-change-order-requires-2 : tie.Need-change-order-requires-2
+select-message-requires : tie.Need-select-message-requires
 unfolding size-of
-change-order-requires-2 c κs =
-    let at-start = c .before .before .before .before .before .before .before in
-    (at-start .pre .0, exactly (row (at-start .args .identifier) 0x0B (length (at-start .args .d .now)) (c .before .if2 .taken) (at-start .pre .3)))
+select-message-requires c κs =
+    let at-if2 = c .before .before in
+    let at-start = at-if2 .before .before .before .before .before .before .before in
+    (at-start .pre .0, at-start .pre .1, exactly (row (at-start .args .identifier) 0x40 (length (at-start .args .d .now)) (at-if2 .if2 .taken) (at-start .pre .4)))
 
 returns-2 : tie.Need-returns-2
-unfolding order set-parameters
 returns-2 c =
     let at-settle2 = c .before .before in
-    let at-change-order2 = at-settle2 .before .before .before .before in
-    let at-if2 = at-change-order2 .before .before in
-    let at-start = at-if2 .before .before .before .before .before .before in
-    changed (at-start .args .state .now) 0x0B (at-start .args .d .now) (at-start .args .strips .now) (at-if2 .if2 .taken) (change-changes Parameters (printer-of (at-start .args .state .now)) (at-start .args .d .now)) (at-start .pre .1)
-    (at-change-order2 .change-order2 .ensures) (at-settle2 .settle2 .ensures)
+    let at-select-message = at-settle2 .before .before .before .before in
+    let at-if2 = at-select-message .before .before .before in
+    let at-if1 = at-if2 .before in
+    let at-start = at-if1 .before .before .before .before .before .before in
+    fulfils-same (ap (λ (o : Order). obeyed (printer-of (at-start .args .state .now)) o (at-start .args .consumed)) (selects (printer-of (at-start .args .state .now)) (at-start .args .store .now) (at-start .args .d .now) (at-if1 .if1 .left) (at-if2 .if2 .taken)))
+    (fulfils-obeyed (printer-of (at-start .args .state .now)) (select-message (printer-of (at-start .args .state .now)) (at-start .args .store .now) (at-start .args .d .now)) (at-start .args .consumed) (at-start .args .store .now) (select-unchanged (printer-of (at-start .args .state .now)) (at-start .args .store .now) (at-start .args .d .now))
+    (meets-changed (printer-of (at-start .args .state .now)) (select-message (printer-of (at-start .args .state .now)) (at-start .args .store .now) (at-start .args .d .now)) (at-start .args .strips .now) (select-changes (printer-of (at-start .args .state .now)) (at-start .args .store .now) (at-start .args .d .now)) (omega arith) (at-select-message .select-message .ensures) (at-settle2 .settle2 .ensures)))
 
-change-order-requires-3 : tie.Need-change-order-requires-3
-unfolding size-of
-change-order-requires-3 c κs =
-    let at-if1 = c .before .before .before in
-    let at-start = at-if1 .before .before .before .before .before in
-    (at-start .pre .0, leb-true 39 _ (row (at-start .args .identifier) 0x0C (length (at-start .args .d .now)) (c .before .if3 .taken) (at-start .pre .3)))
+obey-printer-requires : tie.Need-obey-printer-requires
+obey-printer-requires c κs =
+    let at-if1 = c .before .before .before .before in
+    let at-start = at-if1 .before .before .before .before .before .before in
+    (at-start .pre .0, at-start .pre .2, at-start .pre .3, at-start .pre .4)
 
 returns-3 : tie.Need-returns-3
-unfolding order set-both
 returns-3 c =
-    let at-settle3 = c .before .before in
-    let at-change-order3 = at-settle3 .before .before .before .before in
-    let at-if3 = at-change-order3 .before .before in
-    let at-start = at-if3 .before .before .before .before .before .before .before in
-    changed (at-start .args .state .now) 0x0C (at-start .args .d .now) (at-start .args .strips .now) (at-if3 .if3 .taken) (change-changes Both (printer-of (at-start .args .state .now)) (at-start .args .d .now)) (at-start .pre .1)
-    (at-change-order3 .change-order3 .ensures) (at-settle3 .settle3 .ensures)
-
-request-order-requires : tie.Need-request-order-requires
-unfolding size-of
-request-order-requires c κs =
-    let at-if4 = c .before .before in
-    let at-if1 = at-if4 .before .before .before in
-    let at-start = at-if1 .before .before .before .before .before in
-    (at-start .pre .0, exactly (row (at-start .args .identifier) 0x39 (length (at-start .args .d .now)) (at-if4 .if4 .taken) (at-start .pre .3)), room (at-start .args .answer .now) (at-start .pre .1))
-
-settle-requires-4 : tie.Need-settle-requires-4
-settle-requires-4 c κs =
-    let at-answer4 = c .before .before in
-    let at-request-order = at-answer4 .before in
-    let at-if1 = at-request-order .before .before .before .before .before .before in
-    let at-start = at-if1 .before .before .before .before .before in
-    told-fits (at-start .args .answer .now) (at-request-order .request-order .ensures) (omega arith) (at-answer4 .answer4 .given .1)
-
-returns-4 : tie.Need-returns-4
-unfolding order ask-counter
-returns-4 c =
-    let at-settle4 = c .before .before in
-    let at-request-order = at-settle4 .before .before .before .before in
-    let at-if4 = at-request-order .before .before .before in
-    let at-slice-known = at-if4 .before .before .before .before .before .before .before in
-    let at-start = at-slice-known .before in
-    asked (at-start .args .state .now) (at-start .args .identifier) 0x39 (at-start .args .d .now) (at-start .args .strips .now)
-    (at-row (printer-of (at-start .args .state .now)) 0x39 (at-start .args .d .now) (at-if4 .if4 .taken)) (request-asks request.Counter (printer-of (at-start .args .state .now)) (at-start .args .d .now)) (at-start .pre .0) (at-slice-known .slice-known .given) (at-start .pre .1)
-    (at-request-order .request-order .ensures) (at-settle4 .settle4 .ensures)
-
-change-order-requires-4 : tie.Need-change-order-requires-4
-unfolding size-of
-change-order-requires-4 c κs =
-    let at-if1 = c .before .before .before .before .before in
-    let at-start = at-if1 .before .before .before .before .before in
-    (at-start .pre .0, leb-true 4 _ (row (at-start .args .identifier) 0x42 (length (at-start .args .d .now)) (c .before .if5 .taken) (at-start .pre .3)))
-
-returns-5 : tie.Need-returns-5
-unfolding order edit-message
-returns-5 c =
-    let at-settle5 = c .before .before in
-    let at-change-order4 = at-settle5 .before .before .before .before in
-    let at-if5 = at-change-order4 .before .before in
-    let at-if1 = at-if5 .before .before .before .before in
-    let at-start = at-if1 .before .before .before .before .before in
-    changed (at-start .args .state .now) 0x42 (at-start .args .d .now) (at-start .args .strips .now) (at-if5 .if5 .taken) (change-changes Characters (printer-of (at-start .args .state .now)) (at-start .args .d .now)) (at-start .pre .1)
-    (at-change-order4 .change-order4 .ensures) (at-settle5 .settle5 .ensures)
-
-request-order-requires-2 : tie.Need-request-order-requires-2
-unfolding size-of
-request-order-requires-2 c κs =
-    let at-if6 = c .before .before in
-    let at-if1 = at-if6 .before .before .before .before .before in
-    let at-start = at-if1 .before .before .before .before .before in
-    (at-start .pre .0, exactly (row (at-start .args .identifier) 0x43 (length (at-start .args .d .now)) (at-if6 .if6 .taken) (at-start .pre .3)), room (at-start .args .answer .now) (at-start .pre .1))
-
-settle-requires-6 : tie.Need-settle-requires-6
-settle-requires-6 c κs =
-    let at-answer7 = c .before .before in
-    let at-request-order2 = at-answer7 .before in
-    let at-if3 = at-request-order2 .before .before .before .before .before .before in
-    let at-start = at-if3 .before .before .before .before .before .before .before in
-    told-fits (at-start .args .answer .now) (at-request-order2 .request-order2 .ensures) (omega arith) (at-answer7 .answer7 .given .1)
-
-returns-6 : tie.Need-returns-6
-unfolding order ask-message
-returns-6 c =
-    let at-settle6 = c .before .before in
-    let at-request-order2 = at-settle6 .before .before .before .before in
-    let at-if6 = at-request-order2 .before .before .before in
-    let at-if1 = at-if6 .before .before .before .before .before in
-    let at-slice-known = at-if1 .before .before .before .before in
-    let at-start = at-slice-known .before in
-    asked (at-start .args .state .now) (at-start .args .identifier) 0x43 (at-start .args .d .now) (at-start .args .strips .now)
-    (at-row (printer-of (at-start .args .state .now)) 0x43 (at-start .args .d .now) (at-if6 .if6 .taken)) (request-asks request.Message (printer-of (at-start .args .state .now)) (at-start .args .d .now)) (at-start .pre .0) (at-slice-known .slice-known .given) (at-start .pre .1)
-    (at-request-order2 .request-order2 .ensures) (at-settle6 .settle6 .ensures)
-
-settle-requires-7 : tie.Need-settle-requires-7
-settle-requires-7 c κs =
-    let at-answer9 = c .before .before in
-    let at-ask-table = at-answer9 .before in
-    let at-if3 = at-ask-table .before .before .before .before .before .before in
-    let at-start = at-if3 .before .before .before .before .before .before .before in
-    told-fits (at-start .args .answer .now) (at-ask-table .ask-table .ensures) (omega arith) (at-answer9 .answer9 .given .1)
-
-returns-7 : tie.Need-returns-7
-unfolding order ask-table
-returns-7 c =
-    let at-settle7 = c .before .before in
-    let at-ask-table = at-settle7 .before .before .before .before in
-    let at-if7 = at-ask-table .before .before in
-    let at-if1 = at-if7 .before .before .before .before .before .before in
-    let at-slice-known = at-if1 .before .before .before .before in
-    let at-start = at-slice-known .before in
-    asked (at-start .args .state .now) (at-start .args .identifier) 0x52 (at-start .args .d .now) (at-start .args .strips .now)
-    (at-row (printer-of (at-start .args .state .now)) 0x52 (at-start .args .d .now) (at-if7 .if7 .taken)) (table-asks _) (at-start .pre .0) (at-slice-known .slice-known .given) (at-start .pre .1)
-    (at-ask-table .ask-table .ensures) (at-settle7 .settle7 .ensures)
-
-returns-8 : tie.Need-returns-8
-unfolding order
-returns-8 c =
-    let at-print = c .before .before .before .before .before .before in
-    let at-if8 = at-print .before .before .before .before in
-    let at-if2 = at-if8 .before .before .before .before .before .before in
-    let at-start = at-if2 .before .before .before .before .before .before in
-    meets-same (ap (λ (o : Order). obeyed (printer-of (at-start .args .state .now)) o (at-start .args .consumed)) (at-row (printer-of (at-start .args .state .now)) 0x94 (at-start .args .d .now) (at-if8 .if8 .taken)))
-    (at-print .print .ensures)
-
-settle-requires-8 : tie.Need-settle-requires-8
-settle-requires-8 c κs =
-    let at-answer12 = c .before .before in
-    let at-ask-clock = at-answer12 .before in
-    let at-if5 = at-ask-clock .before .before .before .before .before .before in
-    let at-if1 = at-if5 .before .before .before .before in
-    let at-start = at-if1 .before .before .before .before .before in
-    told-fits (at-start .args .answer .now) (at-ask-clock .ask-clock .ensures) (omega arith) (at-answer12 .answer12 .given .1)
-
-returns-9 : tie.Need-returns-9
-unfolding order ask-clock
-returns-9 c =
-    let at-settle8 = c .before .before in
-    let at-ask-clock = at-settle8 .before .before .before .before in
-    let at-if8 = at-ask-clock .before .before .before in
-    let at-if7 = at-if8 .before in
-    let at-if6 = at-if7 .before in
-    let at-if5 = at-if6 .before in
-    let at-if4 = at-if5 .before in
-    let at-if3 = at-if4 .before in
-    let at-if2 = at-if3 .before in
+    let at-obey-printer = c .before .before .before .before .before .before in
+    let at-if2 = at-obey-printer .before .before .before .before in
     let at-if1 = at-if2 .before in
-    let at-slice-known = at-if1 .before .before .before .before in
-    let at-start = at-slice-known .before in
-    asked (at-start .args .state .now) (at-start .args .identifier) 0xD6 (at-start .args .d .now) (at-start .args .strips .now)
-    (last-row (printer-of (at-start .args .state .now)) (at-start .args .identifier) (at-start .args .d .now) (at-if1 .if1 .left) (at-if2 .if2 .left) (at-if3 .if3 .left) (at-if4 .if4 .left) (at-if5 .if5 .left) (at-if6 .if6 .left) (at-if7 .if7 .left) (at-if8 .if8 .left)) (clock-asks _) (at-start .pre .0) (at-slice-known .slice-known .given) (at-start .pre .1)
-    (at-ask-clock .ask-clock .ensures) (at-settle8 .settle8 .ensures)
+    let at-start = at-if1 .before .before .before .before .before .before in
+    fulfils-same (ap (λ (o : Order). obeyed (printer-of (at-start .args .state .now)) o (at-start .args .consumed)) (others (printer-of (at-start .args .state .now)) (at-start .args .store .now) (at-start .args .identifier) (at-start .args .d .now) (at-if1 .if1 .left) (at-if2 .if2 .left)))
+    (fulfils-obeyed (printer-of (at-start .args .state .now)) (printer-order (printer-of (at-start .args .state .now)) (at-start .args .identifier) (at-start .args .d .now)) (at-start .args .consumed) (at-start .args .store .now) (printer-unchanged (printer-of (at-start .args .state .now)) (at-start .args .identifier) (at-start .args .d .now)) (at-obey-printer .obey-printer .ensures))
 
 pub obey-spec : {M : Type 1} → statement M
 obey-spec =
     tie.close
     (tie.spec
-    change-order-requires
+    store-message-requires
     (λ c κs. search needs)
     (λ c. search needs)
     (λ c. search needs)
     returns
-    change-order-requires-2
+    select-message-requires
     (λ c κs. search needs)
+    (λ c. search needs)
     (λ c. search needs)
     (λ c. search needs)
     returns-2
-    change-order-requires-3
-    (λ c κs. search needs)
-    (λ c. search needs)
-    (λ c. search needs)
-    returns-3
+    obey-printer-requires
     (λ c. search needs)
     (λ c. search needs)
     (λ c. search needs)
-    request-order-requires
-    settle-requires-4
-    (λ c. search needs)
-    (λ c. search needs)
-    returns-4
-    change-order-requires-4
-    (λ c κs. search needs)
-    (λ c. search needs)
-    (λ c. search needs)
-    returns-5
-    (λ c. search needs)
-    (λ c. search needs)
-    (λ c. search needs)
-    request-order-requires-2
-    settle-requires-6
-    (λ c. search needs)
-    (λ c. search needs)
-    returns-6
-    (λ c. search needs)
-    (λ c. search needs)
-    (λ c. search needs)
-    (λ c κs. search needs)
-    settle-requires-7
-    (λ c. search needs)
-    returns-7
-    (λ c κs. search needs)
-    (λ c. search needs)
-    (λ c. search needs)
-    (λ c. search needs)
-    returns-8
-    (λ c. search needs)
-    (λ c. search needs)
-    (λ c. search needs)
-    (λ c κs. search needs)
-    settle-requires-8
-    (λ c. search needs)
-    (λ c. search needs)
-    returns-9)
+    returns-3)
