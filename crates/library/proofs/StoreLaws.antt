@@ -5,7 +5,7 @@ use mathlib.Core.List.{List, [], _++_}
 use mathlib.Core.Bool.{true, false}
 use mathlib.Core.Path.{_≡_, refl, sym, _∙_, ap, subst}
 use native.Mathlib.Omega.{arith}
-use borrow.Author.Tests.{eq-eqb, eqb-true, leb-true}
+use borrow.Author.Tests.{eq-eqb, eqb-true, le-leb, leb-true, lt-leb}
 use lib.Dec.{eqb}
 use lib.ListN.{length, replicate, length-append, length-replicate}
 use Rattle.frame.proofs.Ground.{both-true, true-both}
@@ -101,13 +101,15 @@ module _ (s : List ℕ) (n : ℕ) (body : List ℕ) (r : ℕ) (s′ : List ℕ) 
   keep-full e = let p = eq-eqb (length s) store-size full in (k .number ∙ rw (p, e), k .store ∙ rw (p, e))
 
 pub keep-stores : KeepStores
+unfolding has-room
 keep-stores s n body r s′ k e i =
-    let full = store-tells s e .size in (
-      λ room. let done = keep-done s n body r s′ k full room in (
-        done .0,
-        subst (Stores s n body) (sym (done .1)) (storing-stores s n body e i room),
-      ),
-      keep-full s n body r s′ k full,
+    let full = store-tells s e .size in
+    let size : ℕ = length (written (kept n body (records s))) in (
+      λ h.
+          let room : has-room n body s ≡ true = le-leb size 8192 h in
+          let done = keep-done s n body r s′ k full room in
+          (done .0, subst (Stores s n body) (sym (done .1)) (storing-stores s n body e i room)),
+      λ h. keep-full s n body r s′ k full (lt-leb size 8192 h),
     )
 
 -- ---- Zeros alone.

@@ -1,10 +1,11 @@
 -- What is true of stores: a well-formed one is its records written one behind the other, with 00h behind the last, and it can be read in
 -- no other way; storing puts the new record last, leaves all others byte for byte, and leaves the store well formed.
-use Prim.Native.Nat.{ℕ, _-_, _<_}
-use mathlib.Core.Bool.{true, false}
+use Prim.Native.Nat.{ℕ, _-_, _<_, _≤_}
+use mathlib.Core.Bool.{true}
 use mathlib.Core.List.{List, [], _++_}
 use mathlib.Core.Path.{_≡_}
 use lib.ListN.{length, getD, replicate}
+use Rattle.frame.specs.Ground.{within}
 use Rattle.library.specs.Record.{Record, written, records}
 use Rattle.library.specs.Store.{Keeps, is-number, is-store, held, body-of, kept, stored, has-room}
 
@@ -21,7 +22,7 @@ number-at rs i = getD rs i (record { number = 0; body = [] }) .number
 pub record Formed (s : List ℕ) (rs : List Record) : Type 0 where
   pub size : length s ≡ 8192
   pub laid : s ≡ written rs ++ replicate (8192 - length (written rs)) 0x00
-  pub numbers : (i : ℕ) → i < length rs → is-number (number-at rs i) ≡ true
+  pub numbers : (i : ℕ) → i < length rs → within 1 79 (number-at rs i) ≡ true
   pub none-twice : (i j : ℕ) → i < j → j < length rs → number-at rs i ≡ number-at rs j → ⊥
 
 -- Bytes that the rule calls a store are one in these words, with the records that the rule reads; and what is one in these words, with
@@ -52,7 +53,8 @@ abbrev pub KeepStores : Type 0
 KeepStores =
     (s : List ℕ) (n : ℕ) (body : List ℕ) (r : ℕ) (s′ : List ℕ) →
     Keeps s n body r s′ → is-store s ≡ true → is-number n ≡ true →
-    (has-room n body s ≡ true → (r ≡ 0) × Stores s n body s′) × (has-room n body s ≡ false → (r ≡ 16) × (s′ ≡ s))
+    (length (written (kept n body (records s))) ≤ 8192 → (r ≡ 0) × Stores s n body s′)
+    × (8192 < length (written (kept n body (records s))) → (r ≡ 16) × (s′ ≡ s))
 
 -- A store without records is 8,192 times 00h.
 abbrev pub BlankStore : Type 0
