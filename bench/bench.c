@@ -54,7 +54,7 @@ static void frame(u8 id, const u8 *d, size n)
     in[n + 3] = c; n_in = n + 4;
 }
 static u8 d[600];
-static const u8 PARAM[37] = {1,2,3,4,5,6,7,8,9,10,11, 0x89, '0','0','0','0','0','0','0','9','8', '9','0','0','0','0','0','1','0','0', '0','2', 0,0,2, 0,0};
+static const u8 PARAM[37] = {1,2,3,4,5,6,7,8,9,10,11, 0x89, '8','9','9','9','9','9','9','9','8', '9','0','0','0','0','0','1','0','0', '0','2', 0,0,2, 0,0};
 // plain characters, of a given number of bytes, of 512 and of 61
 static size letters(u8 *o, size end) { size n = 0; o[n++] = 0x0A; o[n++] = 1; o[n++] = 0x54; while (n < end - 1) { o[n] = (u8)('A' + n % 26); n++; } o[n++] = 0x0D; return n; }
 static size plain(u8 *o) { return letters(o, 512); }

@@ -66,6 +66,8 @@ for m in machines:
         rows.append((words, m, f"{r:.3f} ({named(c, s)})", fits(r), f"{one:.3f} ({named(oc, os, state)}) {'yes' if fits(one) else 'no'}"))
     differ = [(c, s, t) for (k, c, s), states in calls.items() if k == m for t, by in states.items() if by["box"][0] != by["twin"][0]]
     rows.append(("numbers, counts and sums are the twin's", m, f"{len(differ)} differ" + (f" ({named(*differ[0])})" if differ else ""), not differ, ""))
+divided = sizes["m0", "box", "divided"]
+rows.append(("no call of a dividing routine", "m0", f"{divided}", divided == 0, ""))
 print()
 print(f"{'goal':40} {'machine':7} {'figure':34} {'reached':7}  highest in any one state")
 for words, m, figure, reached, one in rows:

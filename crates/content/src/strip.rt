@@ -11,6 +11,7 @@ use crate::test::is_content;
 use frame::build::Built;
 use frame::build::lay;
 ghost use Prim.Native.Nat.{_+_, _*_, _≤_};
+ghost use lib.Dec.{leb};
 ghost use lib.ListN.{length};
 ghost use mathlib.Core.Path.{_≡_};
 ghost use Rattle.content.specs.Strip.{Puts, Strips, character-in, item-shows, printed, put-at, strip};
@@ -113,11 +114,28 @@ fn write(s: &[u8], values: Values, out: &mut [u8]) -> usize
     }
 }
 
+// Whether there is room for three times as many bytes, by subtracting: the small board has no divide unit.
+fn room_for_three(n: usize, room: usize) -> bool
+    ensures { λ r. ⌜ r ≡ leb (3 * n) room ⌝ }
+{
+    if room < n {
+        return false;
+    }
+    let rest = room - n;
+    if rest < n {
+        return false;
+    }
+    if rest - n < n {
+        return false;
+    }
+    true
+}
+
 // Writes the strip of any bytes over the front of a buffer of three times their length, which is room enough for every strip.
 pub fn put_strip(s: &[u8], values: Values, out: &mut [u8]) -> Built
     ensures { λ r. ⌜ Puts values (now (s .entry)) (now (out .entry)) r (now (out .exit)) ⌝ }
 {
-    if out.len() / 3 < s.len() {
+    if !room_for_three(s.len(), out.len()) {
         return Built::Refused(2);
     }
     Built::Written(write(s, values, out))

@@ -1,6 +1,7 @@
--- The proofs of `printer`. What the functions' proofs share: numbers and digits in bytes, counters, jets and the whole state in their
+-- The proofs of `printer`. What the functions' proofs share: numbers and digits in bytes, digits by powers of ten, counters, jets and the whole state in their
 -- bytes, a jet's part of the state, the jets of a head, what a valid state tells, orders, answers and prints.
 pub mod Numbers
+pub mod Powers
 pub mod Counters
 pub mod Jets
 pub mod Memory

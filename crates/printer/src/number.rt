@@ -2,30 +2,50 @@
 ghost use Prim.Native.Nat.{_+_, _<_, _≤_};
 ghost use lib.ListN.{drop, length, take};
 ghost use mathlib.Core.Path.{_≡_};
-ghost use Rattle.printer.specs.Number.{digit, digits, is-digit, number-of};
+ghost use Rattle.printer.specs.Number.{digits, is-digit, number-of};
 
-// The digit of a number that a power of ten counts.
-fn digit(n: u32, power: u32) -> u8
-    requires { ⌜ 0 < power ⌝ }
-    ensures { λ r. ⌜ r ≡ digit n power ⌝ }
-{
-    (n / power % 10) as u8 + 0x30
-}
+// The powers of ten, from the highest that a number of 32 bits has.
+const POWERS: [u32; 10] = [
+    1_000_000_000,
+    100_000_000,
+    10_000_000,
+    1_000_000,
+    100_000,
+    10_000,
+    1_000,
+    100,
+    10,
+    1,
+];
 
-// The nine digits of a counter.
+// The nine digits of a counter. Each turn subtracts a power of ten or goes on to the next: the small board has no divide unit. One loop
+// for all powers, since a loop for each is a division to the compiler.
 pub(crate) fn digits(n: u32) -> [u8; 9]
     ensures { λ r. ⌜ r ≡ digits n ⌝ }
 {
+    let powers = POWERS;
+    let mut row = [0x30; 10];
+    let mut left = n;
+    let mut i = 0;
+    while i < 10 {
+        let power = powers[i];
+        if power <= left {
+            left = left - power;
+            row[i] = row[i] + 1;
+        } else {
+            i = i + 1;
+        }
+    }
     [
-        digit(n, 100_000_000),
-        digit(n, 10_000_000),
-        digit(n, 1_000_000),
-        digit(n, 100_000),
-        digit(n, 10_000),
-        digit(n, 1_000),
-        digit(n, 100),
-        digit(n, 10),
-        digit(n, 1),
+        row[1],
+        row[2],
+        row[3],
+        row[4],
+        row[5],
+        row[6],
+        row[7],
+        row[8],
+        row[9],
     ]
 }
 

@@ -1,10 +1,12 @@
 -- `content::strip::put_strip` meets its contract: a buffer of three times the bytes' length has room for the strip of any bytes.
-use Prim.Native.Nat.{ℕ, _*_, _/_, _<_, _≤_}
+use Prim.Native.Nat.{ℕ, _*_, _≤_}
+use mathlib.Core.Bool.{Bool, true, false}
 use mathlib.Core.List.{List}
-use mathlib.Core.Path.{_≡_, refl, ap}
+use mathlib.Core.Path.{_≡_, refl, sym, _∙_, ap}
 use native.Mathlib.Omega.{arith}
 use borrow.Author.Needs.{needs}
-use borrow.Author.Tests.{lt-leb, le-leb}
+use borrow.Author.Tests.{leb-true, not-true, not-false}
+use lib.Dec.{leb}
 use lib.ListN.{length}
 use Rattle.frame.specs.Ground.{over}
 use Rattle.content.specs.Strip.{Puts, put-tests, strip, stripped}
@@ -15,34 +17,39 @@ use Rattle.content.proofs.Told.{strip-told}
 use Rattle.content.proofs.strip.put_strip.Statement.{statement}
 use Rattle.content.proofs.strip.put_strip.Tie as tie
 
-module _ (v : Values) (s before : List ℕ) where
-  short : length before / 3 < length s → Puts v s before (Refused 2) before
+module _ (v : Values) (s before : List ℕ) {b : Bool} (e : b ≡ leb (3 * length s) (length before)) where
+  short : b ≡ false → Puts v s before (Refused 2) before
   unfolding stripped
-  short h = strip-told (put-tests s (length before)) v s before (rw (lt-leb (3 * length s) (length before) (omega arith))) refl
+  short h = strip-told (put-tests s (length before)) v s before (rw (sym e ∙ h)) refl
 
-  fits : length (v .digits) ≡ 9 → length s ≤ length before / 3 → length (strip v s) ≤ length before
-  fits n h = omega (arith, strip-fits v n s)
+  fits : length (v .digits) ≡ 9 → b ≡ true → length (strip v s) ≤ length before
+  fits n h = let room = leb-true (3 * length s) (length before) (sym e ∙ h) in omega (arith, strip-fits v n s)
 
-  written : {n : ℕ} {after : List ℕ} → length s ≤ length before / 3 → (n ≡ length (strip v s)) × (after ≡ over (strip v s) before) → Puts v s before (Written n) after
+  written : {n : ℕ} {after : List ℕ} → b ≡ true → (n ≡ length (strip v s)) × (after ≡ over (strip v s) before) → Puts v s before (Written n) after
   unfolding stripped
-  written h p = strip-told (put-tests s (length before)) v s before (rw (le-leb (3 * length s) (length before) (omega arith)) (ap Written (p .0))) (p .1)
+  written h p = strip-told (put-tests s (length before)) v s before (rw (sym e ∙ h) (ap Written (p .0))) (p .1)
 
 returns : tie.Need-returns
 returns c =
-    let at-start = c .before .before .before in
-    short (at-start .args .values) (at-start .args .s .now) (at-start .args .out .now) (c .if1 .taken)
+    let at-start = c .before .before .before .before in
+    let room = c .before .room-for-three in
+    short (at-start .args .values) (at-start .args .s .now) (at-start .args .out .now) (room .ensures) (not-true (room .result) (c .if1 .taken))
 
 write-requires : tie.Need-write-requires
 write-requires c κs =
-    let at-start = c .before .before .before .before in
-    fits (at-start .args .values) (at-start .args .s .now) (at-start .args .out .now) (search needs) (c .before .if1 .left)
+    let at-room = c .before .before in
+    let at-start = at-room .before .before .before in
+    let room = at-room .room-for-three in
+    fits (at-start .args .values) (at-start .args .s .now) (at-start .args .out .now) (room .ensures) (search needs) (not-false (room .result) (c .before .if1 .left))
 
 returns-2 : tie.Need-returns-2
 returns-2 c =
     let at-write = c .before .before in
     let at-if1 = at-write .before .before in
-    let at-start = at-if1 .before .before .before in
-    written (at-start .args .values) (at-start .args .s .now) (at-start .args .out .now) (at-if1 .if1 .left) (at-write .write .ensures)
+    let at-room = at-if1 .before in
+    let at-start = at-room .before .before .before in
+    let room = at-room .room-for-three in
+    written (at-start .args .values) (at-start .args .s .now) (at-start .args .out .now) (room .ensures) (not-false (room .result) (at-if1 .if1 .left)) (at-write .write .ensures)
 
 pub put-strip-spec : {M : Type 1} → statement M
-put-strip-spec = tie.close (tie.spec returns write-requires (λ c. search needs) returns-2)
+put-strip-spec = tie.close (tie.spec (λ c κs. search needs) returns write-requires (λ c. search needs) returns-2)
