@@ -4,9 +4,10 @@ use Prim.Native.Nat.{ℕ, zero, suc, _+_, _-_, _≤_, _<_}
 use mathlib.Core.Bool.{Bool, true, false}
 use mathlib.Core.List.{List, [], _∷_, _++_, append-nil}
 use mathlib.Core.Path.{_≡_, refl, sym, ap, _∙_}
-use native.Mathlib.Nat.{add-zero, suc-add, zero-add, zero-sub}
+use native.Mathlib.Nat.{add-zero, suc-add, zero-add}
 use native.Mathlib.Omega.{arith}
-use native.Mathlib.Numerals.{one-add}
+use borrow.Author.Tests.{eq-eqb, eqb-true}
+use lib.Dec.{eqb}
 use lib.ListN.{length, take, drop, getD, length-append, length-take, length-drop, take-append-drop, List·getD-append}
 use lib.Seq.{drop-nil, length-take-le, getD-append-add, getD-take, getD-drop}
 use Rattle.frame.specs.Ground.{unless}
@@ -18,18 +19,18 @@ use Rattle.content.specs.Edit as edits
 use Rattle.content.specs.Edit.{addressed, edit-tests, edited, replaced}
 use Rattle.content.specs.Marks.{tree-letters}
 use Rattle.content.specs.Update as updates
-use Rattle.content.specs.Update.{fitted, next-of, rest-of, laid, update-tests, updated}
-use Rattle.content.specs.ChangeLaws.{Changed, none, kept, changed, Kept, ChangeKeeps, EditChanges, EditStaysContent, EditLands, EditAddresses, EditElsewhere, UpdateChanges, UpdateStaysContent, UpdateLands, UpdateLetters, UpdateElsewhere, MarksOfContent, PositionsOfContent, RefusedEditLeaves, RefusedUpdateLeaves, EditKeepsLength, UpdateKeepsLength}
+use Rattle.content.specs.Update.{laid, update-tests, updated}
+use Rattle.content.specs.ChangeLaws.{Changed, none, kept, changed, Kept, ChangeKeeps, EditChanges, EditStaysContent, EditLands, EditAddresses, EditElsewhere, UpdateChanges, UpdateStaysContent, UpdateTaken, UpdateLands, UpdateLetters, UpdateElsewhere, MarksOfContent, PositionsOfContent, RefusedEditLeaves, RefusedUpdateLeaves, EditKeepsLength, UpdateKeepsLength}
 use Rattle.content.specs.Tree.{tree-of}
 use Rattle.content.specs.declared.position.Mark.{Mark}
 use Rattle.content.specs.declared.position.Mark.the-variants.{Structure, Character, FieldCharacter}
 use Rattle.content.specs.declared.edit.Edited.the-variants.{Done, Refused}
 use Rattle.content.specs.declared.test.Verdict.the-variants.{Good}
+use Rattle.content.specs.declared.update.Updated.the-variants as update
 use Rattle.content.specs.declared.update.Updated.the-variants.{Laid}
 use Rattle.frame.proofs.Ground.{never, both-true, checked-refuses, pick-case}
 use Rattle.content.proofs.Changes.{length-same, marks-same, no-structure, positions-same, read-same, rest-alike}
 use Rattle.content.proofs.Laws.{correct, field-positions-from-tree, letters-from-tree, marks-from-tree}
-use Rattle.content.proofs.Laying.{fitted-next}
 
 pub refused-edit-leaves : RefusedEditLeaves
 unfolding edited
@@ -40,8 +41,8 @@ refused-edit-leaves s address symbols e =
 pub refused-update-leaves : RefusedUpdateLeaves
 unfolding updated
 refused-update-leaves s text e =
-    let r = checked-refuses (update-tests text) e in
-    rw (r .gives updates.refused (Laid (field-positions s)))
+    let r = checked-refuses (update-tests (field-positions s) text) e in
+    rw (r .gives updates.refused Laid)
 
 pub marks-of-content : MarksOfContent
 marks-of-content s e = let t = correct s e in rw (t .1) at (marks-from-tree (tree-of s) (t .0))
@@ -170,22 +171,14 @@ field-is-position Structure e = e
 field-is-position Character e = never e
 field-is-position FieldCharacter e = e
 
-next-is-character : (text : List ℕ) → all-characters text ≡ true → is-character (next-of text) ≡ true
-unfolding is-character
-next-is-character [] e = refl
-next-is-character (c ∷ text) e = (both-true (is-character c) (all-characters text) e) .0
-
-rest-are-characters : (text : List ℕ) → all-characters text ≡ true → all-characters (rest-of text) ≡ true
-rest-are-characters [] e = refl
-rest-are-characters (c ∷ text) e = (both-true (is-character c) (all-characters text) e) .1
-
 laid-changes : (m : Mode) (s text : List ℕ) → all-characters text ≡ true → Changed m s (laid text m s)
-laid-changes m [] text e = none
-laid-changes m (b ∷ s) text e =
-    let more = laid-changes (step m b) s (rest-of text) (rest-are-characters text e) in
+laid-changes m s [] e = nothing-changed m s
+laid-changes m [] (c ∷ text) e = none
+laid-changes m (b ∷ s) (c ∷ text) e =
+    let good = both-true (is-character c) (all-characters text) e in
     pick-case (λ (t : List ℕ). Changed m (b ∷ s) t) (is-field-position (mark-of m b)) _ _
-    (λ p. changed (field-is-position (mark-of m b) p) (next-is-character text e) more)
-    (λ p. kept (laid-changes (step m b) s text e))
+    (λ p. changed (field-is-position (mark-of m b) p) (good .0) (laid-changes (step m b) s text (good .1)))
+    (λ p. kept (laid-changes (step m b) s (c ∷ text) e))
 
 pub update-changes : UpdateChanges
 update-changes s text e = laid-changes start s text e
@@ -193,44 +186,80 @@ update-changes s text e = laid-changes start s text e
 pub update-stays-content : UpdateStaysContent
 update-stays-content s text c e = stays-content s _ (update-changes s text e) c
 
+-- What the tests of an update came to, both ways.
+pub update-tells : (s text : List ℕ) → updated s text ≡ Laid → (length text ≡ field-positions s) × (all-characters text ≡ true)
+unfolding updated
+update-tells s text e = go (eqb (length text) (field-positions s)) (all-characters text) refl refl e
+  where
+    go : (x y : Bool) → eqb (length text) (field-positions s) ≡ x → all-characters text ≡ y → unless x (update.Refused 18) (unless y (update.Refused 13) Laid) ≡ Laid → (length text ≡ field-positions s) × (all-characters text ≡ true)
+    go true true p q e = (eqb-true _ _ p, q)
+    go true false p q e = never (cc)
+    go false y p q e = never (cc)
+
+pub update-taken-where : (s text : List ℕ) → length text ≡ field-positions s → all-characters text ≡ true → updated s text ≡ Laid
+unfolding updated
+update-taken-where s text n c = rw (eq-eqb (length text) (field-positions s) n, c)
+
+pub update-taken : UpdateTaken
+update-taken s text e =
+    let n = positions-of-content s e in (
+      (λ p. let h = update-tells s text p in (h .0 ∙ n, h .1)),
+      (λ h. update-taken-where s text (h .0 ∙ sym n) (h .1)),
+    )
+
+-- As many characters as positions: each position has its own.
+none-left : {A : Type 0} (n : ℕ) → 0 ≡ 1 + n → A
+none-left n e = absurd (omega arith)
+
+one-more : (k n : ℕ) → suc k ≡ 1 + n → k ≡ n
+one-more k n e = omega arith
+
 laid-lands :
-    (m : Mode) (s text : List ℕ) → all-characters text ≡ true → at-fields m (laid text m s) ≡ fitted (field-positions-from m s) text
-laid-lands m [] text e = rw zero-sub
-laid-lands m (b ∷ s) text e =
-    pick-case (λ (t : List ℕ). at-fields m t ≡ fitted (field-positions-from m (b ∷ s)) text) (is-field-position (mark-of m b)) _ _
+    (m : Mode) (s text : List ℕ) → length text ≡ field-positions-from m s → all-characters text ≡ true → at-fields m (laid text m s) ≡ text
+laid-lands m [] [] n e = refl
+laid-lands m [] (c ∷ text) n e = absurd (omega arith)
+laid-lands m (b ∷ s) [] n e =
+    pick-case (λ (t : List ℕ). t ≡ []) (is-field-position (mark-of m b)) _ _
+    (λ p. none-left (field-positions-from (step m b) s) (rw p at n))
+    (λ p. laid-lands (step m b) s [] (rw (p, zero-add) at n) e)
+laid-lands m (b ∷ s) (c ∷ text) n e =
+    let good = both-true (is-character c) (all-characters text) e in
+    pick-case (λ (t : List ℕ). at-fields m t ≡ c ∷ text) (is-field-position (mark-of m b)) _ _
     (λ p.
-    let same = no-structure m b (next-of text) (field-is-position (mark-of m b) p) (next-is-character text e) in
-    rw (same .0, same .1, p, one-add, fitted-next, laid-lands (step m b) s (rest-of text) (rest-are-characters text e)))
-    (λ p. rw (p, zero-add) (laid-lands (step m b) s text e))
+    let same = no-structure m b c (field-is-position (mark-of m b) p) (good .0) in
+    rw (same .0, same .1, p) (ap (_∷_ c) (laid-lands (step m b) s text (one-more (length text) (field-positions-from (step m b) s) (rw p at n)) (good .1))))
+    (λ p. rw p (laid-lands (step m b) s (c ∷ text) (rw (p, zero-add) at n) e))
 
 pub update-lands : UpdateLands
-update-lands s text e = laid-lands start s text e
+update-lands s text e =
+    let h = update-tells s text e in
+    laid-lands start s text (h .0) (h .1)
 
 pub update-letters : UpdateLetters
 update-letters s text e c =
-    let k = change-keeps s _ (update-changes s text c) in
-    sym (letters-of-content (laid text start s) (k .verdict-kept ∙ e))
-    ∙ update-lands s text c
-    ∙ ap (λ (n : ℕ). fitted n text) (positions-of-content s e)
+    let k = change-keeps s _ (update-changes s text (update-tells s text c .1)) in
+    sym (letters-of-content (laid text start s) (k .verdict-kept ∙ e)) ∙ update-lands s text c
 
 laid-length : (m : Mode) (s text : List ℕ) → length (laid text m s) ≡ length s
-laid-length m [] text = refl
-laid-length m (b ∷ s) text =
+laid-length m s [] = refl
+laid-length m [] (c ∷ text) = refl
+laid-length m (b ∷ s) (c ∷ text) =
     pick-case (λ (t : List ℕ). length t ≡ suc (length s)) (is-field-position (mark-of m b)) _ _
-    (λ p. ap suc (laid-length (step m b) s (rest-of text)))
     (λ p. ap suc (laid-length (step m b) s text))
+    (λ p. ap suc (laid-length (step m b) s (c ∷ text)))
 
 pub update-keeps-length : UpdateKeepsLength
 update-keeps-length s text = laid-length start s text
 
 laid-elsewhere : (m : Mode) (s text : List ℕ) (i : ℕ) → is-field-position (getD (marks m s) i Structure) ≡ false
     → getD (laid text m s) i 0 ≡ getD s i 0
-laid-elsewhere m [] text i e = refl
-laid-elsewhere m (b ∷ s) text zero e = rw e
-laid-elsewhere m (b ∷ s) text (suc i) e =
+laid-elsewhere m s [] i e = refl
+laid-elsewhere m [] (c ∷ text) i e = refl
+laid-elsewhere m (b ∷ s) (c ∷ text) zero e = rw e
+laid-elsewhere m (b ∷ s) (c ∷ text) (suc i) e =
     pick-case (λ (t : List ℕ). getD t (suc i) 0 ≡ getD s i 0) (is-field-position (mark-of m b)) _ _
-    (λ p. laid-elsewhere (step m b) s (rest-of text) i e)
     (λ p. laid-elsewhere (step m b) s text i e)
+    (λ p. laid-elsewhere (step m b) s (c ∷ text) i e)
 
 pub update-elsewhere : UpdateElsewhere
 update-elsewhere s text i e = laid-elsewhere start s text i e

@@ -4,6 +4,7 @@ use lib.ListN.{length}
 use Rattle.frame.proofs.Numbers.{first-given}
 use Rattle.content.specs.Content.{content-tests, tested}
 use Rattle.content.specs.Edit.{edit-tests}
+use Rattle.content.specs.Position.{field-positions}
 use Rattle.content.specs.Update.{update-tests}
 use Rattle.content.specs.Strip.{put-tests}
 use Rattle.content.specs.NumberLaws.{CallsGiveFirst, InOrder}
@@ -13,7 +14,7 @@ in-order =
     record {
       tests = λ s. refl;
       edits = λ s address symbols. refl;
-      updates = λ text. refl;
+      updates = λ positions text. refl;
       puts = λ s room. refl;
     }
 
@@ -23,6 +24,6 @@ calls-give-first =
     record {
       test = λ s r p. first-given (content-tests s) _ refl (p .answer);
       edit = λ before address symbols r after p. first-given (edit-tests before address symbols) _ refl (p .first);
-      update = λ before text from r after p. first-given (update-tests text) _ refl (p .first);
+      update = λ before text r after p. first-given (update-tests (field-positions before) text) _ refl (p .first);
       put = λ v s before r after p. first-given (put-tests s (length before)) _ refl (p .reports .first);
     }

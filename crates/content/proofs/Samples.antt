@@ -130,11 +130,17 @@ update-with text =
     let r = updates.updated mixed text in
     (updates.number r, updates.bytes-after r mixed text)
 
--- Numbers 0 and 13: two positions, filled with spaces; a third character is dropped, but looked at.
+-- Numbers 0, 18 and 13: two positions take two characters, and no other number of bytes, characters or not; a refusal leaves every byte.
 updates-hold :
-    update-with (0x58 ∷ []) ∷ update-with (0x58 ∷ 0x59 ∷ 0x5A ∷ []) ∷ update-with (0x58 ∷ 0x59 ∷ 0x0D ∷ []) ∷ []
-    ≡ (0, 0x0A ∷ 0x02 ∷ 0x54 ∷ 0x41 ∷ 0x12 ∷ 0x58 ∷ 0x20 ∷ drop 7 mixed)
-    ∷ (0, 0x0A ∷ 0x02 ∷ 0x54 ∷ 0x41 ∷ 0x12 ∷ 0x58 ∷ 0x59 ∷ drop 7 mixed)
+    map update-with
+    ((0x58 ∷ 0x59 ∷ []) ∷ (0x2C ∷ 0x20 ∷ []) ∷ [] ∷ (0x58 ∷ []) ∷ (0x58 ∷ 0x59 ∷ 0x5A ∷ []) ∷ (0x58 ∷ 0x59 ∷ 0x0D ∷ []) ∷ (0x0D ∷ []) ∷ (0x58 ∷ 0x0D ∷ []) ∷ [])
+    ≡ (0, 0x0A ∷ 0x02 ∷ 0x54 ∷ 0x41 ∷ 0x12 ∷ 0x58 ∷ 0x59 ∷ drop 7 mixed)
+    ∷ (0, 0x0A ∷ 0x02 ∷ 0x54 ∷ 0x41 ∷ 0x12 ∷ 0x2C ∷ 0x20 ∷ drop 7 mixed)
+    ∷ (18, mixed)
+    ∷ (18, mixed)
+    ∷ (18, mixed)
+    ∷ (18, mixed)
+    ∷ (18, mixed)
     ∷ (13, mixed)
     ∷ []
 unfolding update-with mixed updates.updated mark-of kind-of code-of is-character is-expansion is-count with-line with-field

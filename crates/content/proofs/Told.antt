@@ -2,7 +2,7 @@
 use Prim.Native.Nat.{ℕ}
 use mathlib.Core.List.{List}
 use mathlib.Core.Path.{_≡_, refl, sym, _∙_, ap, subst}
-use lib.ListN.{drop, length}
+use lib.ListN.{length}
 use Rattle.frame.specs.Ground.{Test, over}
 use Rattle.frame.specs.Build.{length-given, number}
 use Rattle.frame.specs.declared.build.Built.{Built}
@@ -26,13 +26,13 @@ edit-told s address symbols e f =
     record { answer = e; first = ap edits.number e ∙ checked-map edits.number (edits.edit-tests s address symbols) edits.refused Done; bytes = f }
 
 pub update-told :
-    (s text : List ℕ) (from : ℕ) {r : Updated} {after : List ℕ} → r ≡ updates.updated s text →
-    after ≡ updates.bytes-after r s (drop from text) → updates.Updates s text from r after
+    (s text : List ℕ) {r : Updated} {after : List ℕ} → r ≡ updates.updated s text →
+    after ≡ updates.bytes-after r s text → updates.Updates s text r after
 unfolding updates.updated
-update-told s text from e f =
+update-told s text e f =
     record {
       answer = e;
-      first = ap updates.number e ∙ checked-map updates.number (updates.update-tests text) updates.refused (Laid (field-positions s));
+      first = ap updates.number e ∙ checked-map updates.number (updates.update-tests (field-positions s) text) updates.refused Laid;
       bytes = f;
     }
 

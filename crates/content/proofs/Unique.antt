@@ -1,5 +1,5 @@
 -- Every contract has one outcome: the answer is the rule's, and the bytes after go by the answer.
-use Rattle.content.specs.Unique.{ReadsUnique, TestsUnique, WithinUnique, AllCharactersUnique, IsContentUnique, FieldPositionsUnique, EditsUnique, UpdatesUnique, LayingUnique, StripsUnique, PutsUnique}
+use Rattle.content.specs.Unique.{ReadsUnique, TestsUnique, WithinUnique, AllCharactersUnique, IsContentUnique, FieldPositionsUnique, EditsUnique, LayTextUnique, UpdatesUnique, StripsUnique, PutsUnique}
 
 pub reads-unique : ReadsUnique
 reads-unique s r r′ p q = cc
@@ -19,14 +19,14 @@ is-content-unique s r r′ p q = cc
 pub field-positions-unique : FieldPositionsUnique
 field-positions-unique s r r′ p q = cc
 
+pub lay-text-unique : LayTextUnique
+lay-text-unique before text after after′ p q = cc
+
 pub edits-unique : EditsUnique
 edits-unique before address symbols r r′ after after′ p q = ((cc), (cc))
 
 pub updates-unique : UpdatesUnique
-updates-unique before text from r r′ after after′ p q = ((cc), (cc))
-
-pub laying-unique : LayingUnique
-laying-unique before text from r r′ after after′ p q = ((cc), (cc))
+updates-unique before text r r′ after after′ p q = ((cc), (cc))
 
 pub strips-unique : StripsUnique
 strips-unique v s before r r′ after after′ p q = ((cc), (cc))

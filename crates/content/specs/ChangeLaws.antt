@@ -2,6 +2,7 @@
 use Prim.Native.Nat.{ℕ, _+_, _≤_, _<_}
 use mathlib.Core.Bool.{true, false}
 use mathlib.Core.List.{List, [], _∷_}
+use mathlib.Core.Logic.{_↔_}
 use mathlib.Core.Path.{_≡_}
 use lib.ListN.{length, getD}
 use Rattle.frame.specs.Ground.{all}
@@ -12,13 +13,14 @@ use Rattle.content.specs.Position.{at-fields, marks, mark-of, is-positio
 use Rattle.content.specs.Edit as edit
 use Rattle.content.specs.Edit.{edit-tests, edited, replaced}
 use Rattle.content.specs.Update as update
-use Rattle.content.specs.Update.{fitted, laid, update-tests, updated}
+use Rattle.content.specs.Update.{laid, update-tests, updated}
 use Rattle.content.specs.Marks.{tree-letters, tree-marks}
 use Rattle.content.specs.Grammar.{outline}
 use Rattle.content.specs.Tree.{tree-of}
 use Rattle.content.specs.declared.position.Mark.the-variants.{Structure}
 use Rattle.content.specs.declared.edit.Edited.the-variants.{Done}
 use Rattle.content.specs.declared.test.Verdict.the-variants.{Good}
+use Rattle.content.specs.declared.update.Updated.the-variants.{Laid}
 
 -- What a refusal leaves: every byte. The first write stands behind the last test.
 abbrev pub RefusedEditLeaves : Type 0
@@ -29,7 +31,8 @@ RefusedEditLeaves =
 
 abbrev pub RefusedUpdateLeaves : Type 0
 RefusedUpdateLeaves =
-    (s text : List ℕ) → all (update-tests text) ≡ false → update.bytes-after (updated s text) s text ≡ s
+    (s text : List ℕ) → all (update-tests (field-positions s) text) ≡ false →
+    update.bytes-after (updated s text) s text ≡ s
 
 -- Two lists of bytes that differ only where the first has character positions, and there the second has characters.
 pub data Changed : Mode → List ℕ → List ℕ → Type 0 where
@@ -109,21 +112,23 @@ UpdateStaysContent =
     all-characters text ≡ true →
     (is-content (laid text start s) ≡ true) × Kept s (laid text start s)
 
--- 01, What an accepted frame does: "An update lays its characters over the character positions of external fields [..], fields in
--- order [..]. Positions left over become spaces, characters left over are dropped."
-abbrev pub UpdateLands : Type 0
-UpdateLands =
+-- 02, Wish 3: "An update's characters must be exactly as many as the field positions": in the words of the grammar, as many as the
+-- characters of the tree's fields.
+abbrev pub UpdateTaken : Type 0
+UpdateTaken =
     (s text : List ℕ) →
-    all-characters text ≡ true →
-    at-fields start (laid text start s) ≡ fitted (field-positions s) text
+    verdict s ≡ Good →
+    (updated s text ≡ Laid) ↔ ((length text ≡ length (tree-letters (tree-of s))) × (all-characters text ≡ true))
+
+-- 01, What an accepted frame does: "An update lays its characters over the character positions of external fields [..], fields in
+-- order": each position gets its own, and none is lost.
+abbrev pub UpdateLands : Type 0
+UpdateLands = (s text : List ℕ) → updated s text ≡ Laid → at-fields start (laid text start s) ≡ text
 
 -- The same in the words of the grammar: the characters of the tree's fields, in order, become the text.
 abbrev pub UpdateLetters : Type 0
 UpdateLetters =
-    (s text : List ℕ) →
-    verdict s ≡ Good →
-    all-characters text ≡ true →
-    tree-letters (tree-of (laid text start s)) ≡ fitted (length (tree-letters (tree-of s))) text
+    (s text : List ℕ) → verdict s ≡ Good → updated s text ≡ Laid → tree-letters (tree-of (laid text start s)) ≡ text
 
 -- Every other byte stays.
 abbrev pub UpdateElsewhere : Type 0

@@ -6,6 +6,7 @@ use mathlib.Core.Path.{_≡_}
 use lib.ListN.{length}
 use Rattle.frame.specs.Numbers.{FirstGiven, in-order}
 use Rattle.content.specs.Content.{Tests, content-tests}
+use Rattle.content.specs.Position.{field-positions}
 use Rattle.content.specs.Edit as edit
 use Rattle.content.specs.Edit.{Edits, edit-tests}
 use Rattle.content.specs.Update as update
@@ -21,7 +22,7 @@ use Rattle.content.specs.declared.strip.Values.{Values}
 pub record InOrder : Type 0 where
   pub tests : (s : List ℕ) → in-order (content-tests s) ≡ true
   pub edits : (s : List ℕ) (address : ℕ) (symbols : List ℕ) → in-order (edit-tests s address symbols) ≡ true
-  pub updates : (text : List ℕ) → in-order (update-tests text) ≡ true
+  pub updates : (positions : ℕ) (text : List ℕ) → in-order (update-tests positions text) ≡ true
   pub puts : (s : List ℕ) (room : ℕ) → in-order (put-tests s room) ≡ true
 
 -- 01, Numbers: "the first that applies is given, and none otherwise". Of each call that gives a number.
@@ -32,9 +33,9 @@ pub record CallsGiveFirst : Type 0 where
       Edits before address symbols r after →
       FirstGiven (edit-tests before address symbols) (edit.number r)
   pub update :
-      (before text : List ℕ) (from : ℕ) (r : Updated) (after : List ℕ) →
-      Updates before text from r after →
-      FirstGiven (update-tests text) (update.number r)
+      (before text : List ℕ) (r : Updated) (after : List ℕ) →
+      Updates before text r after →
+      FirstGiven (update-tests (field-positions before) text) (update.number r)
   pub put :
       (v : Values) (s before : List ℕ) (r : Built) (after : List ℕ) →
       Puts v s before r after →

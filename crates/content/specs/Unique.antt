@@ -7,7 +7,8 @@ use Rattle.frame.specs.Ground.{OneAnswer, OneOutcome, within}
 use Rattle.content.specs.Byte.{all-characters}
 use Rattle.content.specs.Content.{Reads, Tests, is-content}
 use Rattle.content.specs.Edit.{Edits}
-use Rattle.content.specs.Update.{Laying, Updates}
+use Rattle.content.specs.Machine.{start}
+use Rattle.content.specs.Update.{Updates, laid}
 use Rattle.content.specs.Position.{field-positions}
 use Rattle.content.specs.Strip.{Puts, Strips}
 use Rattle.content.specs.declared.strip.Values.{Values}
@@ -18,7 +19,7 @@ ReadsUnique = (s : List ℕ) → OneAnswer (Reads s)
 abbrev pub TestsUnique : Type 0
 TestsUnique = (s : List ℕ) → OneAnswer (Tests s)
 
--- `within`, `all_characters`, `is_content` and `field_positions` have their rule's value as their contract.
+-- `within`, `all_characters`, `is_content`, `field_positions` and `lay_text` have their rule's value as their contract.
 abbrev pub WithinUnique : Type 0
 WithinUnique = (least most b : ℕ) → OneAnswer (λ (r : Bool). r ≡ within least most b)
 
@@ -31,14 +32,14 @@ IsContentUnique = (s : List ℕ) → OneAnswer (λ (r : Bool). r ≡ is-content 
 abbrev pub FieldPositionsUnique : Type 0
 FieldPositionsUnique = (s : List ℕ) → OneAnswer (λ (r : ℕ). r ≡ field-positions s)
 
+abbrev pub LayTextUnique : Type 0
+LayTextUnique = (before text : List ℕ) → OneAnswer (λ (after : List ℕ). after ≡ laid text start before)
+
 abbrev pub EditsUnique : Type 0
 EditsUnique = (before : List ℕ) (address : ℕ) (symbols : List ℕ) → OneOutcome (Edits before address symbols)
 
 abbrev pub UpdatesUnique : Type 0
-UpdatesUnique = (before text : List ℕ) (from : ℕ) → OneOutcome (Updates before text from)
-
-abbrev pub LayingUnique : Type 0
-LayingUnique = (before text : List ℕ) (from : ℕ) → OneOutcome (Laying before text from)
+UpdatesUnique = (before text : List ℕ) → OneOutcome (Updates before text)
 
 abbrev pub StripsUnique : Type 0
 StripsUnique = (v : Values) (s before : List ℕ) → OneOutcome (Strips v s before)

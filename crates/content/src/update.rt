@@ -2,86 +2,69 @@
 use crate::byte::all_characters;
 use crate::item::begin;
 use crate::position::Run;
+use crate::position::field_positions;
 use crate::position::is_field_position;
 use crate::position::run_at;
-ghost use lib.ListN.{drop, length};
+use frame::build::lay;
+ghost use lib.ListN.{drop, take};
 ghost use mathlib.Core.Path.{_≡_};
-ghost use Rattle.content.specs.Update.{Laying, Updates, fitted, next-of};
+ghost use Rattle.content.specs.Machine.{start};
+ghost use Rattle.content.specs.Update.{Updates, laid};
 
 pub enum Updated {
-    // How many field positions the content has.
-    Laid(usize),
+    Laid,
     // The number.
     Refused(u8),
 }
 
-// The part of a text from a character on; nothing behind its end.
-fn behind(text: &[u8], from: usize) -> &[u8]
-    ensures { λ r. ⌜ now r ≡ drop from (now (text .entry)) ⌝ }
+// A part of a text, from one of its characters on: n of them, or as many as there are.
+fn part_of(text: &[u8], from: usize, n: usize) -> &[u8]
+    ensures { λ r. ⌜ now r ≡ take n (drop from (now (text .entry))) ⌝ }
 {
-    if from <= text.len() {
-        &text[from..]
-    } else {
-        &text[..0]
+    let end = text.len();
+    if end <= from {
+        return &text[end..];
     }
+    if end - from <= n {
+        return &text[from..];
+    }
+    &text[from..from + n]
 }
 
-// A character of the text, and a space behind its end.
-fn next_of(text: &[u8], at: usize) -> u8
-    ensures { λ r. ⌜ r ≡ next-of (drop at (now (text .entry))) ⌝ }
+// Lays a text over the field positions, as far as both go; it doesn't ask what the text is of.
+pub fn lay_text(s: &mut [u8], text: &[u8])
+    ensures { λ _. ⌜ now (s .exit) ≡ laid (now (text .entry)) start (now (s .entry)) ⌝ }
 {
-    if at < text.len() {
-        return text[at];
-    }
-    0x20
-}
-
-// Makes a part of a content the front of a text, with spaces behind its end.
-fn fill(part: &mut [u8], text: &[u8])
-    ensures { λ _. ⌜ now (part .exit) ≡ fitted (length (now (part .entry))) (now (text .entry)) ⌝ }
-{
-    let mut i = 0;
-    while i < part.len() {
-        part[i] = next_of(text, i);
-        i += 1;
-    }
-}
-
-// Lays a text, from one of its characters on, over the field positions, and counts them; it doesn't ask what the text is of.
-pub fn lay_text(s: &mut [u8], text: &[u8], from: usize) -> usize
-    ensures { λ r. ⌜ Laying (now (s .entry)) (now (text .entry)) from r (now (s .exit)) ⌝ }
-{
-    let rest = behind(text, from);
     let mut count = 0;
     let mut reader = begin();
     loop {
         let run = run_at(s, reader);
         match run {
-            Run::Found {
-                mark,
-                from: first,
-                next,
-            } => {
+            Run::Found { mark, from, next } => {
                 let to = next.at;
                 if is_field_position(mark) {
-                    fill(&mut s[first..to], behind(rest, count));
-                    count += to - first;
+                    lay(&mut s[from..to], part_of(text, count, to - from));
+                    count += to - from;
                 }
                 reader = next;
             }
             Run::None => {
-                return count;
+                return;
             }
         }
     }
 }
 
-// Lays a text, from one of its characters on, over the field positions of a content.
-pub fn update(s: &mut [u8], text: &[u8], from: usize) -> Updated
-    ensures { λ r. ⌜ Updates (now (s .entry)) (now (text .entry)) from r (now (s .exit)) ⌝ }
+// Lays a text over the field positions of a content, a character on each.
+pub fn update(s: &mut [u8], text: &[u8]) -> Updated
+    ensures { λ r. ⌜ Updates (now (s .entry)) (now (text .entry)) r (now (s .exit)) ⌝ }
 {
+    if text.len() != field_positions(s) {
+        return Updated::Refused(18);
+    }
     if !all_characters(text) {
         return Updated::Refused(13);
     }
-    Updated::Laid(lay_text(s, text, from))
+    lay_text(s, text);
+    Updated::Laid
 }

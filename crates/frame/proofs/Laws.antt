@@ -9,11 +9,11 @@ use borrow.Author.Tests.{eq-eqb, ne-eqb, lt-ltb, le-ltb, eqb-true, eqb-false, le
 use lib.Dec.{eqb, leb, ltb}
 use lib.ListN.{length, getD, take, drop, length-append, length-take, List·getD-append}
 use lib.Seq.{append-snoc, take-at, drop-at, getD-at, getD-take, take-take, take-append-le, take-append-add, take-append-seam, length-take-le}
-use Rattle.frame.specs.Ground.{pick, unless, over}
+use Rattle.frame.specs.Ground.{pick, unless, has, over}
 use Rattle.frame.specs.Wire.{enquiry, update-opens, update-closes, word, check, size-of, listed, fits, longest-update, update-marks, head-size, around, longest-data}
 use Rattle.frame.specs.Receive.{received, updated, framed, judged, run, text-space, data-length, number, consumed}
 use Rattle.frame.specs.Build.{frame, body, answer-tests, build-tests, answered, built}
-use Rattle.frame.specs.Laws.{heard, heard-in, ReadBack, BuiltReadBack, AnswerReadBack, WrapReadBack, Whole, ConsumedWhole, FrameWhole, ConsumedInside}
+use Rattle.frame.specs.Laws.{heard, heard-in, ReadBack, BuiltReadBack, AnswerReadBack, WrapReadBack, Whole, ConsumedWhole, FrameWhole, ConsumedInside, UpdateHeard}
 use Rattle.frame.specs.declared.receive.Received.{Received}
 use Rattle.frame.specs.declared.receive.Received.the-variants.{Partial, Refused, Misfit, Enquiry, Update, Frame}
 use Rattle.frame.proofs.Ground.{text-length, pick-case, unless-case, both-true, run-kept}
@@ -283,3 +283,21 @@ pub frame-whole : FrameWhole
 unfolding expected
 frame-whole s i n c e =
     (sym (ap consumed e) ∙ taken s .counted ∙ ap expected e, subst (Whole s) e (consumed-whole s (rw e (λ z. omega (arith, z))) (rw e (λ z. omega (arith, z)))))
+
+-- ---- An update's text ends at its first 03h.
+run-text : (b : ℕ) (text rest : List ℕ) → has b text ≡ false → run b (text ++ (b ∷ rest)) ≡ length text
+run-text b [] rest e = rw (eq-eqb b b refl)
+run-text b (x ∷ text) rest e = go (eqb x b) refl (λ q. run-text b text rest q)
+  where
+    go : (t : Bool) → eqb x b ≡ t → (has b text ≡ false → run b (text ++ (b ∷ rest)) ≡ length text) → run b (x ∷ text ++ (b ∷ rest)) ≡ suc (length text)
+    go true q again = absurd (false≢true (sym (rw q at e)))
+    go false q again = rw (q, again (rw q at e)) (omega arith)
+
+pub update-heard : UpdateHeard
+update-heard text rest h e =
+    let k : longest-update + 1 ≡ length text + suc (longest-update - length text) = omega arith in
+    let space : take (longest-update + 1) (text ++ (0x03 ∷ rest)) ≡ text ++ (0x03 ∷ take (longest-update - length text) rest) =
+    ap (λ (n : ℕ). take n (text ++ (0x03 ∷ rest))) k ∙ take-append-add text (0x03 ∷ rest) (suc (longest-update - length text)) in
+    received-update 0x02 (text ++ (0x03 ∷ rest)) (length text) refl
+    (ap (run update-closes) space ∙ run-text 0x03 text _ e)
+    (rw space (simp length-append (omega arith)))

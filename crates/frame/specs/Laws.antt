@@ -1,10 +1,11 @@
--- What document 01 promises of frames as a whole, as statements over the rules: what is built is read back, what is consumed is whole.
+-- What document 01 promises of frames and updates as a whole, as statements over the rules: what is built is read back, what is consumed is
+-- whole, and an update's text is all between its marks.
 use Prim.Native.Nat.{ℕ, _+_, _≤_}
-use mathlib.Core.Bool.{true}
-use mathlib.Core.List.{List, _++_}
+use mathlib.Core.Bool.{true, false}
+use mathlib.Core.List.{List, _∷_, _++_}
 use mathlib.Core.Path.{_≡_}
 use lib.ListN.{length, take, drop}
-use Rattle.frame.specs.Ground.{pick}
+use Rattle.frame.specs.Ground.{pick, has}
 use Rattle.frame.specs.Wire.{enquiry, update-opens, head-size, around, longest-data, size-of, listed, fits}
 use Rattle.frame.specs.Receive.{received, number, consumed}
 use Rattle.frame.specs.Build.{frame, Wraps, Answers, Builds}
@@ -73,3 +74,10 @@ FrameWhole = (s : List ℕ) (i n c : ℕ) → received s ≡ Frame i n c → (c 
 
 abbrev pub ConsumedInside : Type 0
 ConsumedInside = (s : List ℕ) → consumed (received s) ≤ length s
+
+-- 01, On the wire: "An 02h there opens a field update: up to 1,022 characters, then 03h". All bytes between the two are its text, whatever
+-- they are, and whatever stands behind it.
+abbrev pub UpdateHeard : Type 0
+UpdateHeard =
+    (text rest : List ℕ) → length text ≤ 1022 → has 0x03 text ≡ false →
+    received (0x02 ∷ text ++ (0x03 ∷ rest)) ≡ Update (length text) (length text + 2)

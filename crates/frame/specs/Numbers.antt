@@ -7,10 +7,10 @@ use mathlib.Core.Path.{_≡_}
 use lib.Dec.{eqb, leb}
 use Rattle.frame.specs.Ground.{pick, both, has, Test, first-failing, all}
 
--- 01, Numbers, the table from top to bottom; then 01, Other calls. 02, Wish 1: 17 stands "after 8", 16 "after 10". A number that is added
--- later stands where its request says.
+-- 01, Numbers, the table from top to bottom; then 01, Other calls. 02, Wish 1: 17 stands "after 8", 16 "after 10"; Wish 3: 18 "after 11 and
+-- before 12". A number that is added later stands where its request says.
 abbrev pub numbers : List ℕ
-numbers = 1 ∷ 2 ∷ 3 ∷ 4 ∷ 5 ∷ 6 ∷ 7 ∷ 8 ∷ 17 ∷ 9 ∷ 10 ∷ 16 ∷ 11 ∷ 12 ∷ 13 ∷ 14 ∷ 15 ∷ []
+numbers = 1 ∷ 2 ∷ 3 ∷ 4 ∷ 5 ∷ 6 ∷ 7 ∷ 8 ∷ 17 ∷ 9 ∷ 10 ∷ 16 ∷ 11 ∷ 18 ∷ 12 ∷ 13 ∷ 14 ∷ 15 ∷ []
 
 -- The place of a number in a list of them.
 abbrev pub place-in : List ℕ → ℕ → ℕ

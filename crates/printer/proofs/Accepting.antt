@@ -26,8 +26,7 @@ use Rattle.printer.specs.Print.{print}
 use Rattle.printer.specs.Receive.{Outcome, outcome, handled, obeyed, printer-order, order, enquire, refusal, done, answer-size, strips-size}
 use Rattle.printer.specs.OrderLaws.{numbered}
 use Rattle.printer.specs.Demands.{full, passes, printer-after, frame-after, strips-after, change-after, Effect, HasEffect, AcknowledgedExactly, ExactEffect, EffectKept, RoomEnough}
-use Rattle.printer.proofs.OrderLaws.{orders-numbered, update-stores}
-use Rattle.printer.proofs.Outcomes.{update-numbered}
+use Rattle.printer.proofs.OrderLaws.{fields-numbered, orders-numbered, update-stores}
 
 -- ---- An order: done where all its tests hold, and another number than 0 where one fails.
 pub data Comes (e : Outcome) : Bool → Outcome → Type 0 where
@@ -116,7 +115,7 @@ handled-exactly p store s (Refused k c) h = (λ z. absurd (omega arith), λ e. n
 handled-exactly p store s (Misfit k i n c) h = (λ z. absurd (omega arith), λ e. never e)
 handled-exactly p store s Enquiry h = zero-exactly (obeyed-comes p (enquire p) 1 refl)
 handled-exactly p store s (Update n c) h =
-    zero-exactly (obeyed-comes p (update-fields p (take n (drop 1 s))) c (update-numbered p (take n (drop 1 s))))
+    zero-exactly (obeyed-comes p (update-fields p (take n (drop 1 s))) c (fields-numbered p (take n (drop 1 s))))
 handled-exactly p store s (Frame i n c) h =
     zero-exactly (obeyed-comes p (order p store i (take n (drop 3 s))) c (orders-numbered p store i (take n (drop 3 s))))
 
@@ -135,7 +134,7 @@ handled-effect p store s Enquiry h e = obeyed-effect p (enquire p) 1 refl refl r
 handled-effect p store s (Update n c) h e =
     let text = take n (drop 1 s) in
     let d = update-does p text in
-    obeyed-effect p (update-fields p text) c (update-numbered p text) e (d .1) (d .2) (d .0) (update-stores p text)
+    obeyed-effect p (update-fields p text) c (fields-numbered p text) e (d .1) (d .2) (d .0) (update-stores p text)
 handled-effect p store s (Frame i n c) h e =
     let d = take n (drop 3 s) in
     let x = frame-does p store i n d h in

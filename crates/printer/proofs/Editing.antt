@@ -2,15 +2,17 @@
 -- messages on the jets of head 1, and the laws of contents say which bytes these change.
 use Prim.Native.Nat.{ℕ, zero, suc, _+_, _-_, _≤_, _<_}
 use mathlib.Core.Bool.{Bool, true, false}
-use mathlib.Core.List.{List, []}
-use mathlib.Core.Path.{_≡_, refl, sym, subst, ap, _∙_}
+use mathlib.Core.List.{List, [], _∷_, _++_}
+use mathlib.Core.Path.{_≡_, refl, sym, subst, ap, ap₂, _∙_}
 use native.Mathlib.Omega.{arith}
-use borrow.Author.Tests.{eqb-true, eqb-false, leb-true, leb-false, ltb-true, ltb-false}
+use borrow.Author.Tests.{ne-eqb, eqb-true, eqb-false, leb-true, leb-false, lt-ltb, ltb-true, ltb-false}
 use lib.Dec.{eqb, leb, ltb}
-use lib.ListN.{length, getD, take, drop, length-set}
-use Rattle.frame.specs.Ground.{both, all}
+use lib.ListN.{length, getD, take, drop, length-set, length-drop, take-append-drop}
+use lib.Seq.{length-take-le, take-append-seam}
+use Rattle.frame.specs.Ground.{both, all, first-failing, pick, test}
 use Rattle.frame.specs.Receive.{received}
 use Rattle.frame.specs.declared.receive.Received.the-variants.{Update, Frame}
+use Rattle.frame.proofs.Laws as frame-laws
 use Rattle.frame.proofs.Ground.{both-true, within-true}
 use Rattle.content.specs.Byte.{all-characters}
 use Rattle.content.specs.Machine.{start}
@@ -19,24 +21,23 @@ use Rattle.content.specs.Position.{field-positions, is-field-position, marks}
 use Rattle.content.specs.Edit.{replaced}
 use Rattle.content.specs.Marks.{tree-letters, tree-marks}
 use Rattle.content.specs.Tree.{tree-of}
-use Rattle.content.specs.Update.{fitted, laid}
+use Rattle.content.specs.Update.{laid, update-tests}
 use Rattle.content.specs.declared.position.Mark.{Mark}
 use Rattle.content.specs.declared.test.Verdict.the-variants.{Good}
 use Rattle.content.specs.declared.position.Mark.the-variants.{Structure}
-use Rattle.content.proofs.ChangeLaws.{edit-addresses, edit-elsewhere, edit-keeps-length, marks-of-content, positions-of-content, update-elsewhere, update-keeps-length, update-letters}
-use Rattle.content.proofs.Laying.{fitted-append, fitted-none}
+use Rattle.content.proofs.ChangeLaws.{edit-addresses, edit-elsewhere, edit-keeps-length, marks-of-content, positions-of-content, update-elsewhere, update-keeps-length, update-letters, update-taken-where}
 use Rattle.printer.specs.Jet.{Jet, has-message, message}
 use Rattle.printer.specs.State.{Printer, jet-at, with-jet, printer-of, valid, valid-state}
 use Rattle.printer.specs.Order.{Order, given, jet-number}
-use Rattle.printer.specs.Change.{address-in, edited-jet, positions, updated-jet, first-of-head, second-of-head, edit-message, update-fields, updated-head}
+use Rattle.printer.specs.Change.{address-in, edited-jet, positions, updated-jet, first-of-head, second-of-head, head-positions, edit-message, update-fields, updated-head}
 use Rattle.printer.specs.Messages.{valid-store}
 use Rattle.printer.specs.Receive.{Outcome, outcome, obeyed, done, printer-order, order}
 use Rattle.printer.specs.OrderLaws.{numbered}
-use Rattle.printer.specs.Demands.{full, SameButMessage, letters, Edited, EditsOnlyAddressed, Updated, UpdatesOnlyFields}
+use Rattle.printer.specs.Demands.{full, SameButMessage, letters, Edited, EditsOnlyAddressed, Updated, UpdatesOnlyFields, update-number, UpdateNumbered}
 use Rattle.printer.proofs.PrintLaws.{content-good, none-empty}
 use Rattle.printer.proofs.Valid.{on-row, four-jets, jet-content, valid-at, valid-printer}
 use Rattle.printer.proofs.StateLaws.{jet-at-with-jet, jet-at-other, message-of}
-use Rattle.printer.proofs.OrderLaws.{obeyed-done, obeyed-refused, given-exactly, EditTests, edit-tells, characters-behind, update-tells}
+use Rattle.printer.proofs.OrderLaws.{obeyed-done, obeyed-refused, obeyed-number, obeyed-consumes, given-exactly, fields-numbered, EditTests, edit-tells, characters-before, characters-behind, UpdateTests, update-tells}
 
 -- ---- What an accepted order leaves.
 -- All tests of what is accepted hold, and it is done.
@@ -79,13 +80,14 @@ pub head-each : (R : Jet → Jet → Type 0) (p : Printer) (text : List ℕ) (je
     → R (jet-at p jet) (jet-at (updated-head p text) jet)
 head-each R p text jet four c k same new =
     let a = first-of-head p in
-    let first = with-jet p 1 (updated-jet a text) in
-    let many : length (first .jets) ≡ length (p .jets) = length-set (p .jets) 0 (updated-jet a text) in
+    let front = take (positions a) text in
+    let first = with-jet p 1 (updated-jet a front) in
+    let many : length (first .jets) ≡ length (p .jets) = length-set (p .jets) 0 (updated-jet a front) in
     put-jet (R (jet-at p jet)) first 2 jet _ (omega arith) (omega arith) k
     (λ q. subst (λ (n : ℕ). R (jet-at p n) (updated-jet (second-of-head p) (drop (positions a) text))) q
     (new (second-of-head p) (drop (positions a) text) (characters-behind (positions a) text c)))
     (λ _. put-jet (R (jet-at p jet)) p 1 jet _ (omega arith) (omega arith) k
-    (λ q. subst (λ (n : ℕ). R (jet-at p n) (updated-jet a text)) q (new a text c)) (λ _. same (jet-at p jet)))
+    (λ q. subst (λ (n : ℕ). R (jet-at p n) (updated-jet a front)) q (new a front (characters-before (positions a) text c))) (λ _. same (jet-at p jet)))
 
 -- ---- An edit.
 -- No message has no positions.
@@ -98,9 +100,10 @@ no-count : field-positions [] ≡ length (tree-letters (tree-of []))
 unfolding tree-of
 no-count = refl
 
-no-letters : (text : List ℕ) → tree-letters (tree-of (laid text start [])) ≡ fitted (length (tree-letters (tree-of []))) text
+no-letters : (text : List ℕ) → length text ≡ field-positions [] → tree-letters (tree-of (laid text start [])) ≡ text
 unfolding tree-of
-no-letters text = sym (fitted-none text)
+no-letters [] n = refl
+no-letters (c ∷ text) n = absurd (omega arith)
 
 -- What is not among n places from a on stands before or behind them.
 outside : (a n i : ℕ) (A : Type 0) → both (leb a i) (ltb i (a + n)) ≡ false → (i < a → A) × (a + n ≤ i → A) → A
@@ -178,63 +181,91 @@ module _ (p : Printer) (n : ℕ) (v : valid p ≡ true) (on : 1 ≤ n) where
   same-count : positions (jet-at p n) ≡ length (tree-letters (tree-of (message (jet-at p n))))
   same-count = message-case (λ (s : List ℕ). field-positions s ≡ length (tree-letters (tree-of s))) no-count positions-of-content
 
+  -- As many characters as positions become the characters of the fields.
   letters-laid :
-      (text : List ℕ) → all-characters text ≡ true →
-      tree-letters (tree-of (message (updated-jet (jet-at p n) text))) ≡ fitted (length (tree-letters (tree-of (message (jet-at p n))))) text
-  letters-laid text c =
+      (text : List ℕ) → length text ≡ positions (jet-at p n) → all-characters text ≡ true →
+      tree-letters (tree-of (message (updated-jet (jet-at p n) text))) ≡ text
+  letters-laid text many c =
       ap (λ (l : List ℕ). tree-letters (tree-of l)) (message-of (jet-at p n) (laid text start (message (jet-at p n))))
-      ∙ message-case (λ (s : List ℕ). tree-letters (tree-of (laid text start s)) ≡ fitted (length (tree-letters (tree-of s))) text)
-      (no-letters text) (λ s e. update-letters s text e c)
+      ∙ message-case (λ (s : List ℕ). length text ≡ field-positions s → tree-letters (tree-of (laid text start s)) ≡ text)
+      (no-letters text) (λ s e k. update-letters s text e (update-taken-where s text k c)) many
 
-pub update-updates :
-    (p : Printer) (text : List ℕ) → length (p .jets) ≡ 4 → valid p ≡ true → all-characters text ≡ true →
-    Updated p (update-fields p text .after) text
-unfolding update-fields
-update-updates p text four v c =
-    record {
-      model = refl;
-      clock = refl;
-      second-head = λ jet w.
-          let r = within-true 3 4 jet w in
-          jet-at-other first-put 2 jet _ (omega arith) (omega arith) (λ e. omega arith)
-          ∙ jet-at-other p 1 jet _ (omega arith) (omega arith) (λ e. omega arith);
-      elsewhere = λ jet i w e.
-          let on = within-true 1 2 jet w .0 in
-          head-each Elsewhere p text jet four c on (λ j i e. refl)
-          (λ j t _ i e. ap (λ (l : List ℕ). getD l i 0) (message-of j (laid t start (message j))) ∙ update-elsewhere (message j) t i e) i
-          (ap is-field-position (same-marks p jet v on i) ∙ e);
-      lands =
-          let behind = drop (positions (first-of-head p)) text in
-          let one : jet-at (updated-head p text) 1 ≡ updated-jet (first-of-head p) text =
-          jet-at-other first-put 2 1 _ (omega arith) (omega arith) (λ e. omega arith) ∙ jet-at-with-jet p 1 _ (omega arith) (omega arith) in
-          let two : jet-at (updated-head p text) 2 ≡ updated-jet (second-of-head p) behind =
-          jet-at-with-jet first-put 2 _ (omega arith) (omega (arith, many)) in
-          let cut : behind ≡ drop (length (letters p 1)) text = ap (λ (n : ℕ). drop n text) (same-count p 1 v (omega arith)) in
-          rw (
-            one,
-            two,
-            letters-laid p 1 v (omega arith) text c,
-            letters-laid p 2 v (omega arith) behind (characters-behind (positions (first-of-head p)) text c),
-            cut,
-          )
-          (sym (fitted-append (length (letters p 1)) (length (letters p 2)) text));
-      as-long = λ jet w.
-          head-each (λ (j k : Jet). length (message k) ≡ length (message j)) p text jet four c (within-true 1 4 jet w .0) (λ j. refl)
-          (λ j t _. ap length (message-of j (laid t start (message j))) ∙ update-keeps-length (message j) t);
-      rest = λ jet w.
-          head-each SameButMessage p text jet four c (within-true 1 4 jet w .0)
-          (λ j. record { general = refl; counter = refl }) (λ j t _. record { general = refl; counter = refl });
-    }
-  where
-    first-put : Printer
-    first-put = with-jet p 1 (updated-jet (first-of-head p) text)
+-- The jets of head 1 are jets 1 and 2.
+on-head : (P : ℕ → Type 0) (jet : ℕ) → 1 ≤ jet → jet ≤ 2 → P 1 → P 2 → P jet
+on-head P zero h g one two = absurd (omega arith)
+on-head P (suc zero) h g one two = one
+on-head P (suc (suc zero)) h g one two = two
+on-head P (suc (suc (suc n))) h g one two = absurd (omega arith)
 
-    many : length (first-put .jets) ≡ length (p .jets)
-    many = length-set (p .jets) 0 (updated-jet (first-of-head p) text)
+-- The fields on head 1 have as many characters as there are positions.
+same-counts : (p : Printer) → valid p ≡ true → head-positions p ≡ length (letters p 1) + length (letters p 2)
+same-counts p v = ap₂ _+_ (same-count p 1 v (omega arith)) (same-count p 2 v (omega arith))
 
-    -- A jet's message, before and after.
-    Elsewhere : Jet → Jet → Type 0
-    Elsewhere j k = (i : ℕ) → is-field-position (getD (marks start (message j)) i Structure) ≡ false → getD (message k) i 0 ≡ getD (message j) i 0
+module _ (p : Printer) (text : List ℕ) (four : length (p .jets) ≡ 4) (v : valid p ≡ true) (t : UpdateTests p text) where
+  -- The text in two parts, one for each jet, and the state between them.
+  abbrev front : List ℕ
+  front = take (positions (first-of-head p)) text
+
+  abbrev behind : List ℕ
+  behind = drop (positions (first-of-head p)) text
+
+  abbrev first-put : Printer
+  first-put = with-jet p 1 (updated-jet (first-of-head p) front)
+
+  many : length (first-put .jets) ≡ length (p .jets)
+  many = length-set (p .jets) 0 (updated-jet (first-of-head p) front)
+
+  first-long : length front ≡ positions (first-of-head p)
+  first-long = length-take-le _ text (omega (arith, t .as-many))
+
+  second-long : length behind ≡ positions (second-of-head p)
+  second-long = simp length-drop (omega (arith, t .as-many))
+
+  -- What the fields of each jet become.
+  first-letters : letters (updated-head p text) 1 ≡ front
+  first-letters =
+      ap (λ (j : Jet). tree-letters (tree-of (message j)))
+      (jet-at-other first-put 2 1 _ (omega arith) (omega arith) (λ e. omega arith) ∙ jet-at-with-jet p 1 _ (omega arith) (omega arith))
+      ∙ letters-laid p 1 v (omega arith) front first-long (characters-before (positions (first-of-head p)) text (t .characters))
+
+  second-letters : letters (updated-head p text) 2 ≡ behind
+  second-letters =
+      ap (λ (j : Jet). tree-letters (tree-of (message j))) (jet-at-with-jet first-put 2 _ (omega arith) (omega (arith, many)))
+      ∙ letters-laid p 2 v (omega arith) behind second-long (characters-behind (positions (first-of-head p)) text (t .characters))
+
+  -- A jet's message, before and after.
+  abbrev Elsewhere : Jet → Jet → Type 0
+  Elsewhere j k = (i : ℕ) → is-field-position (getD (marks start (message j)) i Structure) ≡ false → getD (message k) i 0 ≡ getD (message j) i 0
+
+  pub update-updates : Updated p (update-fields p text .after) text
+  unfolding update-fields
+  update-updates =
+      record {
+        model = refl;
+        clock = refl;
+        second-head = λ jet w.
+            let r = within-true 3 4 jet w in
+            jet-at-other first-put 2 jet _ (omega arith) (omega arith) (λ e. omega arith)
+            ∙ jet-at-other p 1 jet _ (omega arith) (omega arith) (λ e. omega arith);
+        elsewhere = λ jet i w e.
+            let on = within-true 1 2 jet w .0 in
+            head-each Elsewhere p text jet four (t .characters) on (λ j i e. refl)
+            (λ j t _ i e. ap (λ (l : List ℕ). getD l i 0) (message-of j (laid t start (message j))) ∙ update-elsewhere (message j) t i e) i
+            (ap is-field-position (same-marks p jet v on i) ∙ e);
+        as-many = t .as-many ∙ same-counts p v;
+        lands = ap₂ _++_ first-letters second-letters ∙ take-append-drop (positions (first-of-head p)) text;
+        same-fields = λ jet w.
+            let r = within-true 1 2 jet w in
+            on-head (λ (n : ℕ). length (letters (updated-head p text) n) ≡ length (letters p n)) jet (r .0) (r .1)
+            (ap length first-letters ∙ first-long ∙ same-count p 1 v (omega arith))
+            (ap length second-letters ∙ second-long ∙ same-count p 2 v (omega arith));
+        as-long = λ jet w.
+            head-each (λ (j k : Jet). length (message k) ≡ length (message j)) p text jet four (t .characters) (within-true 1 4 jet w .0) (λ j. refl)
+            (λ j t _. ap length (message-of j (laid t start (message j))) ∙ update-keeps-length (message j) t);
+        rest = λ jet w.
+            head-each SameButMessage p text jet four (t .characters) (within-true 1 4 jet w .0)
+            (λ j. record { general = refl; counter = refl }) (λ j t _. record { general = refl; counter = refl });
+      }
 
 -- What is handed in does what the rule of an update does.
 update-heard : (m store s : List ℕ) (n consumed : ℕ) → valid-state m ≡ true → valid-store store ≡ true → received s ≡ Update n consumed
@@ -242,13 +273,32 @@ update-heard : (m store s : List ℕ) (n consumed : ℕ) → valid-state m ≡ t
 unfolding outcome
 update-heard m store s n consumed v w e = rw (v, w, e)
 
-pub update-numbered : (p : Printer) (text : List ℕ) → numbered (update-fields p text .tests) ≡ true
-unfolding update-fields
-update-numbered p text = refl
-
 pub updates-only-fields : UpdatesOnlyFields
 updates-only-fields m store s n consumed v w e z =
     let p = printer-of m in
     let text = take n (drop 1 s) in
-    accepted-leaves (λ (q : Printer). Updated p q text) m store s (update-fields p text) consumed (update-numbered p text) (update-heard m store s n consumed v w e) z
+    accepted-leaves (λ (q : Printer). Updated p q text) m store s (update-fields p text) consumed (fields-numbered p text) (update-heard m store s n consumed v w e) z
     (λ t. update-updates p text (four-jets m) (valid-printer m v) (update-tells p text t))
+
+-- The tests of an update in the words of its number.
+given-number : (n : ℕ) (text : List ℕ) → first-failing (test (ltb 0 n) 11 ∷ update-tests n text) ≡ update-number n text
+given-number zero text = refl
+given-number (suc n) text = rw (lt-ltb 0 (suc n) (omega arith), ne-eqb (suc n) 0 (λ z. omega arith)) (go (eqb (length text) (suc n)) (all-characters text))
+  where
+    go : (x y : Bool) → first-failing (test x 18 ∷ test y 13 ∷ []) ≡ pick x (pick y 0 13) 18
+    go true true = refl
+    go true false = refl
+    go false y = refl
+
+given-fields : (p : Printer) (text : List ℕ) → first-failing (update-fields p text .tests) ≡ update-number (head-positions p) text
+unfolding update-fields
+given-fields p text = given-number (head-positions p) text
+
+pub update-numbered : UpdateNumbered
+update-numbered m store text rest v w h e =
+    let p = printer-of m in
+    let n = length text in
+    rw (update-heard m store (0x02 ∷ text ++ (0x03 ∷ rest)) n (n + 2) v w (frame-laws.update-heard text rest h e), take-append-seam text (0x03 ∷ rest)) (
+      obeyed-number p (update-fields p text) (n + 2) ∙ given-fields p text ∙ ap (λ (k : ℕ). update-number k text) (same-counts p (valid-printer m v)),
+      obeyed-consumes p (update-fields p text) (n + 2),
+    )

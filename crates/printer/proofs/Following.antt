@@ -174,7 +174,7 @@ module _ (p : Printer) (four : length (p .jets) ≡ 4) (jet : ℕ) (k : 1 ≤ je
   update-tracks : (text : List ℕ) → all (update-fields p text .tests) ≡ true → Tracks (update-fields p text .after) nothing
   unfolding update-fields Tracks
   update-tracks text t =
-      head-each (λ (i j : Jet). Follows (message i) last → Follows (message j) last) p text jet four (update-tells p text t) k
+      head-each (λ (i j : Jet). Follows (message i) last → Follows (message j) last) p text jet four (update-tells p text t .characters) k
       (λ j f. f) updated-follows held
 
   pub leads-follow : (q : Printer) (b : Brought) → Leads jet p q b → Follows (message (jet-at q jet)) (newer b last)

@@ -28,8 +28,7 @@ use Rattle.calendar.specs.declared.clock.Clock.{Clock}
 use Rattle.printer.proofs.Valid.{valid-printer, valid-clock}
 use Rattle.calendar.proofs.ClockLaws.{tick-real}
 use Rattle.printer.proofs.StateLaws.{clock-valid}
-use Rattle.printer.proofs.OrderLaws.{obeyed-done, obeyed-refused, given-exactly, orders-numbered, order-keeps, update-keeps}
-use Rattle.printer.proofs.Editing.{update-numbered}
+use Rattle.printer.proofs.OrderLaws.{obeyed-done, obeyed-refused, given-exactly, fields-numbered, orders-numbered, order-keeps, update-keeps}
 use Rattle.printer.proofs.Rooms.{Rooms, SizeFits, update-rooms, order-rooms}
 
 -- What an accepted call leads to, and the whole message that it brings a jet.
@@ -67,7 +66,7 @@ module _ (jet : ℕ) (m : List ℕ) (Q : List ℕ → Brought → Type 0) (same 
   handled-gives store s Enquiry w e h = obeyed-gives (enquire (printer-of m)) 1 nothing refl (λ _. leads _ _ stays)
   handled-gives store s (Update n consumed) w e h =
       let text = take n (drop 1 s) in
-      obeyed-gives (update-fields (printer-of m) text) consumed nothing (update-numbered (printer-of m) text) (λ t. leads _ _ (updates text t))
+      obeyed-gives (update-fields (printer-of m) text) consumed nothing (fields-numbered (printer-of m) text) (λ t. leads _ _ (updates text t))
   handled-gives store s (Frame i n consumed) w e h =
       let d = take n (drop 3 s) in
       let long : length d ≡ n = length-take-le n (drop 3 s) (simp length-drop (omega (arith, frame-inside s e))) in

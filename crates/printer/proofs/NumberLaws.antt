@@ -19,10 +19,10 @@ use Rattle.printer.specs.Messages.{store-message, select-message}
 use Rattle.printer.specs.Request.{ask-counter, ask-message, ask-table, ask-clock}
 use Rattle.printer.specs.Print.{print}
 use Rattle.printer.specs.Call.{set-clock, tick-clock}
-use Rattle.printer.specs.Receive.{Handed, Outcome, done, handled, handing-tests, obeyed, order, outcome, refusal, silent}
+use Rattle.printer.specs.Receive.{Handed, Outcome, handled, handing-tests, obeyed, order, outcome, silent}
 use Rattle.printer.specs.State.{Printer, printer-of}
 use Rattle.printer.specs.NumberLaws.{CallsGiveFirst, InOrder, asked-tests, outcome-tests}
-use Rattle.printer.proofs.OrderLaws.{printer-order-case, order-case}
+use Rattle.printer.proofs.OrderLaws.{obeyed-number, printer-order-case, order-case}
 
 pub numbers-in-order : InOrder
 unfolding store-message select-message set-message set-parameters set-both edit-message update-fields ask-counter ask-message ask-table ask-clock print set-clock tick-clock
@@ -50,10 +50,6 @@ then-asked s ts e =
     let held = first-given (receive-tests s) 0 (frame-order .receives s) e .none .0 refl in
     let give : Refusal → ℕ = λ r. r .number in
     sym (checked-append (receive-tests s) ts give 0 ∙ checked-all (receive-tests s) give (first-failing ts) held)
-
-obeyed-number : (p : Printer) (o : Order) (consumed : ℕ) → obeyed p o consumed .number ≡ first-failing (o .tests)
-unfolding obeyed
-obeyed-number p o consumed = checked-map (λ (x : Outcome). x .number) (o .tests) (λ (r : Refusal). refusal p (r .number) consumed) (done o consumed)
 
 -- So what the box says of what was received is the receiver's number, or that of the first test of what is asked that fails.
 handled-number : (p : Printer) (store s : List ℕ) (r : Received) → number r ≡ first-failing (receive-tests s)

@@ -1,16 +1,16 @@
 -- Why every order is refused at its first test that fails or done, and keeps a valid state valid and a well-formed store well formed:
 -- tests in a row come to what the first that fails says, each order puts a valid jet in the place of a valid one, and only a good
 -- message goes into the store.
-use Prim.Native.Nat.{ℕ, zero, suc, _+_, _-_, _≤_}
+use Prim.Native.Nat.{ℕ, zero, suc, _-_, _≤_}
 use mathlib.Core.Bool.{Bool, true, false}
 use mathlib.Core.List.{List, [], _∷_}
 use mathlib.Core.Path.{_≡_, refl, sym, ap, _∙_}
 use native.Mathlib.Omega.{arith}
-use borrow.Author.Tests.{leb-true, ltb-false}
+use borrow.Author.Tests.{eqb-true, leb-true, ltb-false}
 use lib.Dec.{eqb, leb, ltb}
-use lib.ListN.{length, drop, length-set}
-use Rattle.frame.specs.Ground.{Test, Refusal, both, checked, all}
-use Rattle.frame.proofs.Ground.{never, both-true, true-both, pick-case, checked-all, checked-refuses, length-each}
+use lib.ListN.{length, take, drop, length-set}
+use Rattle.frame.specs.Ground.{Test, Refusal, both, checked, first-failing, all}
+use Rattle.frame.proofs.Ground.{never, both-true, true-both, pick-case, checked-all, checked-case, checked-map, checked-refuses, length-each}
 use Rattle.content.specs.Byte.{is-character, all-characters}
 use Rattle.content.specs.Content.{is-content}
 use Rattle.content.specs.Machine.{start}
@@ -23,11 +23,11 @@ use Rattle.printer.specs.Jet.{Jet, has-jet, has-message, message, valid-
 use Rattle.printer.specs.State.{Printer, jet-at, with-jet, valid}
 use Rattle.library.specs.Store.{has-room, is-number}
 use Rattle.printer.specs.Order.{Order, unchanged, store-after, given, jet-number, jet-in}
-use Rattle.printer.specs.Change.{parameters-in, address-in, first-of-head, second-of-head, positions, updated-jet, updated-head, set-message, set-parameters, set-both, edit-message, update-fields}
+use Rattle.printer.specs.Change.{parameters-in, address-in, first-of-head, second-of-head, positions, head-positions, updated-jet, updated-head, set-message, set-parameters, set-both, edit-message, update-fields}
 use Rattle.printer.specs.Messages.{body-content, body-parameters, good-body, is-there, select-message, selected-body, selected-number, store-message, stored-body, stored-number, valid-store}
 use Rattle.printer.specs.Request.{ask-counter, ask-message, ask-table, ask-clock}
 use Rattle.printer.specs.Print.{print}
-use Rattle.printer.specs.Receive.{obeyed, refusal, printer-order, order}
+use Rattle.printer.specs.Receive.{Outcome, obeyed, refusal, done, printer-order, order}
 use Rattle.printer.specs.OrderLaws.{ObeyedDone, ObeyedRefused, numbered, OrdersNumbered, GivenExactly, Keeps, OrderKeeps, UpdateKeeps, OrderStores, UpdateStores}
 use Rattle.printer.proofs.Valid.{valid-at, absent-empty, jet-content, on-row}
 use Rattle.printer.proofs.StateLaws.{put-valid, with-jet-valid, message-stays, parameters-stay}
@@ -49,6 +49,16 @@ obeyed-done p o consumed e = checked-all (o .tests) _ _ e
 pub obeyed-refused : ObeyedRefused
 unfolding obeyed
 obeyed-refused p o consumed e = checked-given (o .tests) (λ (number : ℕ). refusal p number consumed) _ e
+
+-- Whatever comes of it, the number is that of the first test that fails, or 0, and what it says is consumed.
+pub obeyed-number : (p : Printer) (o : Order) (consumed : ℕ) → obeyed p o consumed .number ≡ first-failing (o .tests)
+unfolding obeyed
+obeyed-number p o consumed = checked-map (λ (x : Outcome). x .number) (o .tests) (λ (r : Refusal). refusal p (r .number) consumed) (done o consumed)
+
+pub obeyed-consumes : (p : Printer) (o : Order) (consumed : ℕ) → obeyed p o consumed .consumed ≡ consumed
+unfolding obeyed
+obeyed-consumes p o consumed =
+    checked-case (λ (x : Outcome). x .consumed ≡ consumed) (o .tests) (λ (r : Refusal). refusal p (r .number) consumed) (done o consumed) (λ t h. refl) (λ h. refl)
 
 given-number : (tests : List Test) → numbered tests ≡ true → all tests ≡ false → 8 ≤ given tests
 given-number [] n e = never (cc)
@@ -107,6 +117,10 @@ pub orders-numbered : OrdersNumbered
 unfolding store-message select-message
 orders-numbered p store i d =
     order-case (λ (o : Order). numbered (o .tests) ≡ true) p store i d (λ _. refl) (λ _. refl) (λ _. printer-numbered p i d)
+
+pub fields-numbered : (p : Printer) (text : List ℕ) → numbered (update-fields p text .tests) ≡ true
+unfolding update-fields
+fields-numbered p text = refl
 
 -- The printer's own put nothing into the store.
 pub printer-unchanged : (p : Printer) (i : ℕ) (d : List ℕ) → printer-order p i d .store ≡ unchanged
@@ -279,21 +293,35 @@ unfolding update-fields
 update-stores p text = refl
 
 -- ---- An update.
+pub characters-before : (n : ℕ) (text : List ℕ) → all-characters text ≡ true → all-characters (take n text) ≡ true
+characters-before zero text e = refl
+characters-before (suc n) [] e = refl
+characters-before (suc n) (b ∷ text) e =
+    let h = both-true (is-character b) (all-characters text) e in
+    true-both (is-character b) (all-characters (take n text)) (h .0) (characters-before n text (h .1))
+
 pub characters-behind : (n : ℕ) (text : List ℕ) → all-characters text ≡ true → all-characters (drop n text) ≡ true
 characters-behind zero text e = e
 characters-behind (suc n) [] e = refl
 characters-behind (suc n) (b ∷ text) e = characters-behind n text (both-true (is-character b) (all-characters text) e .1)
 
-pub update-tells : (p : Printer) (text : List ℕ) → all (update-fields p text .tests) ≡ true → all-characters text ≡ true
+pub record UpdateTests (p : Printer) (text : List ℕ) : Type 0 where
+  pub as-many : length text ≡ head-positions p
+  pub characters : all-characters text ≡ true
+
+pub update-tells : (p : Printer) (text : List ℕ) → all (update-fields p text .tests) ≡ true → UpdateTests p text
 unfolding update-fields
 update-tells p text t =
-    both-true (all-characters text) true (both-true (ltb 0 (positions (first-of-head p) + positions (second-of-head p))) _ t .1) .0
+    let a = both-true (ltb 0 (head-positions p)) _ t in
+    let b = both-true (eqb (length text) (head-positions p)) _ (a .1) in
+    record { as-many = eqb-true (length text) (head-positions p) (b .0); characters = both-true (all-characters text) true (b .1) .0 }
 
 -- It leaves a jet without a message alone.
 empty-kept : (text : List ℕ) (n : ℕ) (content general : List ℕ) (counter : Counter) → n ≡ 0
     → updated-jet (record { length = n; content = content; general = general; counter = counter }) text
     ≡ record { length = n; content = content; general = general; counter = counter }
-empty-kept text n content general counter e = rw e
+empty-kept [] n content general counter e = rw e
+empty-kept (c ∷ text) n content general counter e = rw e
 
 module _ (j : Jet) (text : List ℕ) (c : all-characters text ≡ true) where
   none-kept : has-message j ≡ false → updated-jet j text ≡ j
@@ -314,16 +342,17 @@ head-valid : (p : Printer) (text : List ℕ) → valid p ≡ true → all-charac
 head-valid p text v c =
     let a = first-of-head p in
     let b = second-of-head p in
-    let text′ = drop (positions a) text in
-    let first = put-valid p 1 (updated-jet a text) v (omega arith) (updated-valid a text c _ (valid-at p 1 v (omega arith))) in
-    put-valid (with-jet p 1 (updated-jet a text)) 2 (updated-jet b text′) first (omega arith)
-    (updated-valid b text′ (characters-behind (positions a) text c) _ (valid-at p 2 v (omega arith)))
+    let front = take (positions a) text in
+    let rest = drop (positions a) text in
+    let first = put-valid p 1 (updated-jet a front) v (omega arith) (updated-valid a front (characters-before (positions a) text c) _ (valid-at p 1 v (omega arith))) in
+    put-valid (with-jet p 1 (updated-jet a front)) 2 (updated-jet b rest) first (omega arith)
+    (updated-valid b rest (characters-behind (positions a) text c) _ (valid-at p 2 v (omega arith)))
 
 pub update-keeps : UpdateKeeps
 unfolding update-fields
 update-keeps p text four =
     record {
-      stays-valid = λ v t. head-valid p text v (update-tells p text t);
+      stays-valid = λ v t. head-valid p text v (update-tells p text t .characters);
       model = refl;
-      as-many = length-set (with-jet p 1 (updated-jet (first-of-head p) text) .jets) 1 _ ∙ length-set (p .jets) 0 _;
+      as-many = length-set (with-jet p 1 (updated-jet (first-of-head p) (take (positions (first-of-head p)) text)) .jets) 1 _ ∙ length-set (p .jets) 0 _;
     }

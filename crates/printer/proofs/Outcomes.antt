@@ -20,7 +20,7 @@ use Rattle.printer.specs.Change.{update-fields}
 use Rattle.printer.specs.Messages.{valid-store}
 use Rattle.printer.specs.Receive.{Handed, Outcome, outcome, handled, obeyed, order, enquire, silent, refusal, done, answer-size, strips-size}
 use Rattle.printer.specs.OrderLaws.{numbered}
-use Rattle.printer.proofs.OrderLaws.{orders-numbered}
+use Rattle.printer.proofs.OrderLaws.{fields-numbered, orders-numbered}
 
 -- The three kinds of outcome in a state, with what they consume.
 pub data Kind (p : Printer) (c : ℕ) : Outcome → Type 0 where
@@ -40,16 +40,12 @@ obeyed-kind : (p : Printer) (o : Order) (c : ℕ) → numbered (o .tests) ≡ tr
 unfolding obeyed
 obeyed-kind p o c e = tests-kind p o c (o .tests) e
 
-pub update-numbered : (p : Printer) (text : List ℕ) → numbered (update-fields p text .tests) ≡ true
-unfolding update-fields
-update-numbered p text = refl
-
 handled-kind : (p : Printer) (store s : List ℕ) (r : Received) → Sound s r → Kind p (consumed r) (handled p store s r)
 handled-kind p store s Partial h = silence 3 (omega arith) (omega arith)
 handled-kind p store s (Refused k c) h = refused k h
 handled-kind p store s (Misfit k i n c) h = refused k h
 handled-kind p store s Enquiry h = obeyed-kind p (enquire p) 1 refl
-handled-kind p store s (Update n c) h = obeyed-kind p (update-fields p (take n (drop 1 s))) c (update-numbered p (take n (drop 1 s)))
+handled-kind p store s (Update n c) h = obeyed-kind p (update-fields p (take n (drop 1 s))) c (fields-numbered p (take n (drop 1 s)))
 handled-kind p store s (Frame i n c) h = obeyed-kind p (order p store i (take n (drop 3 s))) c (orders-numbered p store i (take n (drop 3 s)))
 
 pub outcome-kind : (m : List ℕ) (h : Handed) → Kind (printer-of m) (consumed (received (h .bytes))) (outcome m h)

@@ -123,7 +123,8 @@ pub update-rooms : (p : Printer) (text : List ℕ) → Rooms p → Rooms (update
 unfolding update-fields
 update-rooms p text r =
     let a = first-of-head p in
-    put-rooms (with-jet p 1 (updated-jet a text)) 2 _ (put-rooms p 1 _ r (updated-roomy a text (r 1 (omega arith))))
+    let front = take (positions a) text in
+    put-rooms (with-jet p 1 (updated-jet a front)) 2 _ (put-rooms p 1 _ r (updated-roomy a front (r 1 (omega arith))))
     (updated-roomy (second-of-head p) (drop (positions a) text) (r 2 (omega arith)))
 
 -- ---- What an order of the right size leaves.

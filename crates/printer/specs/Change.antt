@@ -74,7 +74,7 @@ least-data Both = 39
 least-data Characters = 4
 
 -- 01, What an accepted frame does: "An update lays its characters over the character positions of external fields on head 1, jets
--- ascending, fields in order". 11 "no field position on head 1", 13 "an update byte is no character".
+-- ascending": the first jet takes as many characters as it has positions, the second those behind them.
 abbrev pub first-of-head : Printer → Jet
 first-of-head p = jet-at p (head-jet 1 0)
 
@@ -90,15 +90,18 @@ updated-jet j text = with-message j (laid text start (message j))
 abbrev pub updated-head : Printer → List ℕ → Printer
 updated-head p text =
     with-jet
-    (with-jet p (head-jet 1 0) (updated-jet (first-of-head p) text))
+    (with-jet p (head-jet 1 0) (updated-jet (first-of-head p) (take (positions (first-of-head p)) text)))
     (head-jet 1 1)
     (updated-jet (second-of-head p) (drop (positions (first-of-head p)) text))
 
+-- 01, Numbers: 11 "no field position on head 1". 02, Wish 3: 18 where the characters are not "exactly as many as the field positions on
+-- head 1", both jets' together; 01, Numbers: 13 "an update byte is no character".
+abbrev pub head-positions : Printer → ℕ
+head-positions p = positions (first-of-head p) + positions (second-of-head p)
+
 unfoldable pub update-fields : Printer → List ℕ → Order
 update-fields p text =
-    change
-    (test (ltb 0 (positions (first-of-head p) + positions (second-of-head p))) 11 ∷ update-tests text)
-    (updated-head p text)
+    change (test (ltb 0 (head-positions p)) 11 ∷ update-tests (head-positions p) text) (updated-head p text)
 
 -- A jet's bytes behind some tests: their number, and the bytes of another jet where they all hold.
 pub record BecomesJet (tests : List Test) (j : Jet) (b : List ℕ) (r : ℕ) (b′ : List ℕ) : Type 0 where

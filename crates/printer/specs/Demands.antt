@@ -13,12 +13,12 @@ use Rattle.frame.specs.declared.build.Built.the-variants.{Written}
 use Rattle.frame.specs.Receive.{received}
 use Rattle.frame.specs.declared.receive.Received.{Received}
 use Rattle.frame.specs.declared.receive.Received.the-variants.{Partial, Refused, Misfit, Enquiry, Update, Frame}
+use Rattle.content.specs.Byte.{all-characters}
 use Rattle.content.specs.Content.{is-content}
 use Rattle.content.specs.Position.{is-field-position, is-position}
 use Rattle.content.specs.Grammar.{Tree, encode, good-tree, outline, resolved, shape}
 use Rattle.content.specs.Marks.{tree-letters, tree-marks}
 use Rattle.content.specs.Tree.{tree-of}
-use Rattle.content.specs.Update.{fitted}
 use Rattle.content.specs.declared.position.Mark.the-variants.{Structure}
 use Rattle.calendar.specs.Clock.{clock-text, entries, table-text}
 use Rattle.printer.specs.Counter.{counter-text}
@@ -113,6 +113,29 @@ abbrev pub AcknowledgedExactly : Type 0
 AcknowledgedExactly =
     (m store s : List ℕ) → valid-state m ≡ true → valid-store store ≡ true →
     (outcome m (full store s) .number ≡ 0) ↔ (passes (printer-of m) store s (received s) ≡ true)
+
+-- The characters of the fields of a jet's message, in order.
+abbrev pub letters : Printer → ℕ → List ℕ
+letters p jet = tree-letters (tree-of (message (jet-at p jet)))
+
+-- The same of an update, apart from its tests: the number that it gets by how many characters the fields on head 1 have. 01, Numbers: 11
+-- "no field position on head 1"; 02, Wish 3: 18 unless it has "exactly as many"; 01, Numbers: 13 "an update byte is no character".
+abbrev pub update-number : ℕ → List ℕ → ℕ
+update-number positions text =
+    pick (eqb positions 0) 11 (pick (eqb (length text) positions) (pick (all-characters text) 0 13) 18)
+
+-- An update on the line, alone or with bytes behind it: all bytes between 02h and 03h count, characters or not, and with every number it is
+-- consumed through its 03h.
+abbrev pub UpdateNumbered : Type 0
+UpdateNumbered =
+    (m store text rest : List ℕ) →
+    valid-state m ≡ true →
+    valid-store store ≡ true →
+    length text ≤ 1022 →
+    has 0x03 text ≡ false →
+    let o = outcome m (full store (0x02 ∷ text ++ (0x03 ∷ rest))) in
+    (o .number ≡ update-number (length (letters (printer-of m) 1) + length (letters (printer-of m) 2)) text)
+    × (o .consumed ≡ length text + 2)
 
 -- The message that a number in the data stands for: 02, Wish 1, 40h has "jet, number", and the body is "37 parameter bytes, content".
 abbrev pub selected-in : List ℕ → List ℕ → List ℕ
@@ -335,12 +358,8 @@ EditsOnlyAddressed =
     outcome m (full store s) .number ≡ 0 →
     Edited (printer-of m) (outcome m (full store s) .printer) (take n (drop 3 s))
 
--- The characters of the fields of a jet's message, in order.
-abbrev pub letters : Printer → ℕ → List ℕ
-letters p jet = tree-letters (tree-of (message (jet-at p jet)))
-
--- An accepted update leaves type, clock and head 2, and on head 1 all but the characters of external fields: these, jet 1 before jet 2,
--- become the text, cut or filled with spaces.
+-- An accepted update leaves type, clock and head 2, and on head 1 all but the characters of external fields. These, jet 1 before jet 2,
+-- become the text, each its own character; 02, Wish 3: they are "exactly as many", so that none is left over and none is lost.
 pub record Updated (p q : Printer) (text : List ℕ) : Type 0 where
   pub model : q .model ≡ p .model
   pub clock : q .clock ≡ p .clock
@@ -349,7 +368,9 @@ pub record Updated (p q : Printer) (text : List ℕ) : Type 0 where
       (jet i : ℕ) → within 1 2 jet ≡ true →
       is-field-position (getD (tree-marks (tree-of (message (jet-at p jet)))) i Structure) ≡ false →
       getD (message (jet-at q jet)) i 0 ≡ getD (message (jet-at p jet)) i 0
-  pub lands : letters q 1 ++ letters q 2 ≡ fitted (length (letters p 1) + length (letters p 2)) text
+  pub as-many : length text ≡ length (letters p 1) + length (letters p 2)
+  pub lands : letters q 1 ++ letters q 2 ≡ text
+  pub same-fields : (jet : ℕ) → within 1 2 jet ≡ true → length (letters q jet) ≡ length (letters p jet)
   pub as-long : (jet : ℕ) → within 1 4 jet ≡ true → length (message (jet-at q jet)) ≡ length (message (jet-at p jet))
   pub rest : (jet : ℕ) → within 1 4 jet ≡ true → SameButMessage (jet-at p jet) (jet-at q jet)
 

@@ -36,6 +36,9 @@ pub(crate) enum Change {
     Characters,
 }
 
+// Where the parameters of 0Bh and 0Ch end: the jet number and 37 bytes.
+const PARAMETERS_END: usize = 38;
+
 // The first data byte is the jet number: where that jet begins, or 0 where it is not on the printer.
 pub(crate) fn place_in(state: &[u8], d: &[u8]) -> usize
     requires { ⌜ (length (now state) ≡ state-size) × (1 ≤ length (now d)) ⌝ }
@@ -66,7 +69,7 @@ fn set_parameters(jet: &mut [u8], d: &[u8]) -> u8
     requires { ⌜ (length (now jet) ≡ jet-size) × (38 ≤ length (now d)) ⌝ }
     ensures { λ r. ⌜ ChangesJet Parameters (now (d .entry)) (now (jet .entry)) r (now (jet .exit)) ⌝ }
 {
-    let parameters = &d[1..38];
+    let parameters = &d[1..PARAMETERS_END];
     if !good_parameters(parameters) {
         return 9;
     }
@@ -79,8 +82,8 @@ fn set_both(jet: &mut [u8], d: &[u8]) -> u8
     requires { ⌜ (length (now jet) ≡ jet-size) × (39 ≤ length (now d)) ⌝ }
     ensures { λ r. ⌜ ChangesJet Both (now (d .entry)) (now (jet .entry)) r (now (jet .exit)) ⌝ }
 {
-    let message = &d[38..];
-    let parameters = &d[1..38];
+    let message = &d[PARAMETERS_END..];
+    let parameters = &d[1..PARAMETERS_END];
     if !good_parameters(parameters) {
         return 9;
     }
@@ -128,7 +131,7 @@ pub(crate) fn change_order(state: &mut [u8], what: Change, d: &[u8]) -> u8
     change_jet(&mut state[at..end], what, d)
 }
 
-// A field update, over the jets of head 1.
+// A field update, over the jets of head 1: a character for each field position, jet 1's before jet 2's.
 pub(crate) fn update_fields(state: &mut [u8], text: &[u8]) -> u8
     requires { ⌜ valid-state (now state) ≡ true ⌝ }
     ensures { λ r. ⌜ Obeys (update-fields (printer-of (now (state .entry))) (now (text .entry))) (now (state .entry)) r (now (state .exit)) ⌝ }
@@ -138,13 +141,17 @@ pub(crate) fn update_fields(state: &mut [u8], text: &[u8]) -> u8
     let end = first + JET;
     let behind = second + JET;
     let taken = positions(&state[first..end]);
-    if taken + positions(&state[second..behind]) == 0 {
+    let all = taken + positions(&state[second..behind]);
+    if all == 0 {
         return 11;
+    }
+    if text.len() != all {
+        return 18;
     }
     if !all_characters(text) {
         return 13;
     }
-    update_jet(&mut state[first..end], text, 0);
-    update_jet(&mut state[second..behind], text, taken);
+    update_jet(&mut state[first..end], &text[..taken]);
+    update_jet(&mut state[second..behind], &text[taken..]);
     0
 }

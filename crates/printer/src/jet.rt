@@ -16,7 +16,7 @@ use content::update::lay_text;
 use frame::build::lay;
 use frame::wire::word;
 ghost use Prim.Native.Nat.{_-_, _≤_};
-ghost use lib.ListN.{drop, length};
+ghost use lib.ListN.{length};
 ghost use mathlib.Core.Bool.{true};
 ghost use mathlib.Core.Path.{_≡_};
 ghost use Rattle.printer.specs.Change.{BecomesJet, edited-jet, positions, updated-jet, with-both};
@@ -232,13 +232,13 @@ pub(crate) fn positions(jet: &[u8]) -> usize
     field_positions(message(jet))
 }
 
-// A jet's field positions take a text, from one of its characters on.
-pub(crate) fn update_jet(jet: &mut [u8], text: &[u8], from: usize)
+// A jet's field positions take a text.
+pub(crate) fn update_jet(jet: &mut [u8], text: &[u8])
     requires { ⌜ (length (now jet) ≡ jet-size) × (jet-of (now jet) .length ≤ longest-message) ⌝ }
-    ensures { λ _. ⌜ now (jet .exit) ≡ jet-bytes (updated-jet (jet-of (now (jet .entry))) (drop from (now (text .entry)))) ⌝ }
+    ensures { λ _. ⌜ now (jet .exit) ≡ jet-bytes (updated-jet (jet-of (now (jet .entry))) (now (text .entry))) ⌝ }
 {
     let end = CONTENT_AT + message_length(jet);
-    lay_text(&mut jet[CONTENT_AT..end], text, from);
+    lay_text(&mut jet[CONTENT_AT..end], text);
 }
 
 // Whether a jet can print: a message and parameters, on each jet that the printer has.

@@ -12,6 +12,7 @@ use content::strip::Values;
 use content::strip::put_strip;
 use content::strip::write_strip;
 use content::update::Updated;
+use content::update::lay_text;
 use content::update::update;
 use frame::build::Built;
 use frame::build::answer;
@@ -23,6 +24,13 @@ use line::write_line;
 
 // More than any buffer that the table asks for.
 pub(crate) const BUFFER: usize = 1_600;
+
+// How the first bytes of a line change the others: an edit from an address on, as 42h does; an update; a text laid as far as it goes.
+pub(crate) enum Way {
+    Edit(usize),
+    Update,
+    Text,
+}
 
 // No byte behind those written is touched.
 fn mark(buffer: &[u8], written: usize) {
@@ -145,23 +153,26 @@ fn edited_number(edited: Edited) -> u8 {
     }
 }
 
-// The first k bytes are laid over the others from an address on, as 42h does; the number, and the bytes.
-pub(crate) fn show_edit(out: &mut [u8], address: usize, k: usize, s: &[u8]) {
-    if s.len() < k {
-        return;
+fn updated_number(updated: Updated) -> u8 {
+    match updated {
+        Updated::Laid => 0,
+        Updated::Refused(number) => number,
     }
-    let size = s.len() - k;
-    if out.len() < size {
-        return;
-    }
-    lay(out, &s[k..]);
-    let edited = edit(&mut out[0..size], address, &s[0..k]);
-    number(edited_number(edited));
-    bytes(front(out, size));
 }
 
-// The first k bytes are a text for the field positions of the others, from one of its characters on: how many there are, and the bytes.
-pub(crate) fn show_update(out: &mut [u8], from: usize, k: usize, s: &[u8]) {
+fn changed(s: &mut [u8], way: Way, text: &[u8]) -> u8 {
+    match way {
+        Way::Edit(address) => edited_number(edit(s, address, text)),
+        Way::Update => updated_number(update(s, text)),
+        Way::Text => {
+            lay_text(s, text);
+            0
+        }
+    }
+}
+
+// The first k bytes change the others: the number, and the bytes.
+pub(crate) fn show_change(out: &mut [u8], way: Way, k: usize, s: &[u8]) {
     if s.len() < k {
         return;
     }
@@ -170,16 +181,6 @@ pub(crate) fn show_update(out: &mut [u8], from: usize, k: usize, s: &[u8]) {
         return;
     }
     lay(out, &s[k..]);
-    let updated = update(&mut out[0..size], &s[0..k], from);
-    match updated {
-        Updated::Laid(n) => {
-            text(b" ");
-            count(n);
-        }
-        Updated::Refused(refused) => {
-            text(b" refused");
-            number(refused);
-        }
-    }
+    number(changed(&mut out[0..size], way, &s[0..k]));
     bytes(front(out, size));
 }

@@ -12,15 +12,15 @@ use crate::call::set;
 use crate::call::start;
 use crate::call::tested;
 use crate::lower::BUFFER;
+use crate::lower::Way;
 use crate::lower::show_answer;
 use crate::lower::show_build;
-use crate::lower::show_edit;
+use crate::lower::show_change;
 use crate::lower::show_lay;
 use crate::lower::show_line;
 use crate::lower::show_positions;
 use crate::lower::show_put;
 use crate::lower::show_strip;
-use crate::lower::show_update;
 use crate::lower::show_wrap;
 use crate::shelf::asked;
 use crate::shelf::prepared;
@@ -189,16 +189,21 @@ fn lower(line: &[u8]) {
     let mut out = [UNWRITTEN; BUFFER];
     if begins(line, b"edit") {
         let n = bytes_in(line, 3, &mut s);
-        show_edit(&mut out, number(line, 1), number(line, 2), front(&s, n));
-        return;
-    }
-    if begins(line, b"update") {
-        let n = bytes_in(line, 3, &mut s);
-        show_update(&mut out, number(line, 1), number(line, 2), front(&s, n));
+        let way = Way::Edit(number(line, 1));
+        show_change(&mut out, way, number(line, 2), front(&s, n));
         return;
     }
     let n = bytes_in(line, 2, &mut s);
-    laid(line, &mut out, number(line, 1), front(&s, n));
+    let k = number(line, 1);
+    if begins(line, b"update") {
+        show_change(&mut out, Way::Update, k, front(&s, n));
+        return;
+    }
+    if begins(line, b"text") {
+        show_change(&mut out, Way::Text, k, front(&s, n));
+        return;
+    }
+    laid(line, &mut out, k, front(&s, n));
 }
 
 // A line that makes a call.

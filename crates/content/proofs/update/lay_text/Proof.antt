@@ -1,15 +1,11 @@
 -- `content::update::lay_text` meets its contract. The loop keeps that the bytes passed, with the text left laid over the bytes left, are
--- the whole text laid over the whole content, and that the count so far and the field positions left make up the content's. The measure
--- is what is left of the length.
-use Prim.Native.Nat.{ℕ, _-_}
-use mathlib.Core.List.{List}
-use mathlib.Core.Path.{_≡_, refl, _∙_, ap}
+-- the whole text laid over the whole content. The measure is what is left of the length.
+use Prim.Native.Nat.{_-_}
+use mathlib.Core.Path.{refl}
 use native.Mathlib.Omega.{arith}
 use borrow.Author.Needs.{needs}
-use lib.ListN.{length, drop}
-use Rattle.content.specs.Machine.{start}
+use lib.ListN.{length}
 use Rattle.content.specs.Position.{Runs}
-use Rattle.content.specs.Update.{laid}
 use Rattle.content.specs.declared.position.Run.the-variants.{Found}
 use Rattle.content.proofs.Laying.{Laid-to, not-laid, laid-past, laid-on, laid-all}
 use Rattle.content.proofs.Stretches.{found, found-none}
@@ -17,43 +13,44 @@ use Rattle.content.proofs.update.lay_text.Statement.{statement}
 use Rattle.content.proofs.update.lay_text.Tie as tie
 
 abbrev Inv-loop : tie.InvT-loop
-Inv-loop s₀ text from rest count₀ reader₀ s count reader =
-    Laid-to s₀ rest s count (reader .at) (reader .place) (reader .seen) × (rest ≡ drop from text)
+Inv-loop s₀ text count₀ reader₀ s count reader = Laid-to s₀ text s count (reader .at) (reader .place) (reader .seen)
 
 abbrev μ-loop : tie.MeasureT-loop
-μ-loop s₀ text from rest count₀ reader₀ s count reader = length s - reader .at
+μ-loop s₀ text count₀ reader₀ s count reader = length s - reader .at
 
--- The loop's head before a run that is found, the start before the loop, and what is found.
+-- The loop's head before a run that is found, and what is found.
 abbrev loop-of : tie.After-run Inv-loop μ-loop → tie.At-loop Inv-loop μ-loop
 loop-of c = c .before .before .before .before
-
-abbrev start-of : tie.At-loop Inv-loop μ-loop → tie.Start Inv-loop μ-loop
-start-of c = c .before .before .before .before .before
 
 run-of : (c : tie.After-run Inv-loop μ-loop) → let r = c .run .given .0 in Runs (loop-of c .loop .s) (loop-of c .loop .reader) (Found (r .0) (r .1 .0) (r .1 .1 .0))
 run-of c = found (loop-of c .loop .s) (loop-of c .loop .reader) (c .before .before .run-at .ensures) (c .run .given .1)
 
 loop-holds : tie.Need-loop-holds Inv-loop μ-loop
 loop-holds c =
-    let at-start = c .before .before .before .before in
-    rw (c .begin .ensures) (not-laid (at-start .args .s .now) _, c .before .behind .ensures)
+    let at-start = c .before .before .before in
+    rw (c .begin .ensures) (not-laid (at-start .args .s .now) (at-start .args .text .now))
 
 run-at-requires : tie.Need-run-at-requires Inv-loop μ-loop
-run-at-requires c κs = c .before .loop .inv .0 .inside
+run-at-requires c κs = c .before .loop .inv .inside
 
-sub-fill : tie.Need-sub-fill Inv-loop μ-loop
-sub-fill c =
+sub-lay : tie.Need-sub-lay Inv-loop μ-loop
+sub-lay c =
     let r = run-of (c .before .before .before) in
     omega (arith, r .ahead, r .some, r .inside)
 
-part-fill-start : tie.Need-part-fill-start Inv-loop μ-loop
-part-fill-start c =
+part-lay-start : tie.Need-part-lay-start Inv-loop μ-loop
+part-lay-start c =
     let r = run-of (c .before .before .before) in
     omega (arith, r .ahead, r .some, r .inside)
 
-part-fill-end : tie.Need-part-fill-end Inv-loop μ-loop
-part-fill-end c =
+part-lay-end : tie.Need-part-lay-end Inv-loop μ-loop
+part-lay-end c =
     let r = run-of (c .before .before .before) in
+    omega (arith, r .ahead, r .some, r .inside)
+
+sub-part-of : tie.Need-sub-part-of Inv-loop μ-loop
+sub-part-of c =
+    let r = run-of (c .before .before .before .before) in
     omega (arith, r .ahead, r .some, r .inside)
 
 sub-count : tie.Need-sub-count Inv-loop μ-loop
@@ -66,30 +63,23 @@ add-count : tie.Need-add-count Inv-loop μ-loop
 add-count c =
     let at-run = c .before .before .before .before .before .before .before .before in
     let r = run-of at-run in
-    omega (arith, r .ahead, r .some, r .inside, loop-of at-run .loop .inv .0 .few)
-
-loop-less : tie.Need-loop-less Inv-loop μ-loop
-loop-less c =
-    let at-fill = c .before .before in
-    let at-behind2 = at-fill .before in
-    let at-if1 = at-behind2 .before .before in
-    let at-is-field-position = at-if1 .before in
-    let at-run = at-is-field-position .before .before in
-    let at-loop = loop-of at-run in
-    let r = run-of at-run in
-    let g = laid-on (at-loop .loop .inv .0) r (at-is-field-position .is-field-position .ensures) (at-if1 .if1 .taken) (at-behind2 .behind2 .ensures) (at-fill .fill .ensures) refl in
-    omega (arith, r .ahead, r .some, g .inside, g .long, at-loop .loop .inv .0 .long)
+    omega (arith, r .ahead, r .some, r .inside, loop-of at-run .loop .inv .few)
 
 loop-again : tie.Need-loop-again Inv-loop μ-loop
 loop-again c =
-    let at-fill = c .before .before in
-    let at-behind2 = at-fill .before in
-    let at-if1 = at-behind2 .before .before in
+    let at-lay = c .before .before in
+    let at-part-of = at-lay .before in
+    let at-if1 = at-part-of .before .before in
     let at-is-field-position = at-if1 .before in
     let at-run = at-is-field-position .before .before in
-    let at-loop = loop-of at-run in
+    laid-on (loop-of at-run .loop .inv) (run-of at-run) (at-is-field-position .is-field-position .ensures) (at-if1 .if1 .taken) (at-part-of .part-of .ensures) (at-lay .lay .ensures) refl
+
+loop-less : tie.Need-loop-less Inv-loop μ-loop
+loop-less c =
+    let at-run = c .before .before .before .before .before .before .before .before in
     let r = run-of at-run in
-    (laid-on (at-loop .loop .inv .0) r (at-is-field-position .is-field-position .ensures) (at-if1 .if1 .taken) (at-behind2 .behind2 .ensures) (at-fill .fill .ensures) refl, at-loop .loop .inv .1)
+    let g = loop-again c in
+    omega (arith, r .ahead, r .some, g .inside, g .long, loop-of at-run .loop .inv .long)
 
 loop-less-2 : tie.Need-loop-less-2 Inv-loop μ-loop
 loop-less-2 c =
@@ -99,22 +89,18 @@ loop-less-2 c =
 loop-again-2 : tie.Need-loop-again-2 Inv-loop μ-loop
 loop-again-2 c =
     let at-run = c .before .before .before in
-    let at-loop = loop-of at-run in
-    let r = run-of at-run in
-    (laid-past (at-loop .loop .inv .0) r (c .before .is-field-position .ensures) (c .if1 .left), at-loop .loop .inv .1)
+    laid-past (loop-of at-run .loop .inv) (run-of at-run) (c .before .is-field-position .ensures) (c .if1 .left)
 
 same-length : tie.Need-same-length Inv-loop μ-loop
 same-length c =
     let at-loop = c .before .before .before .before in
-    at-loop .loop .inv .0 .long
+    at-loop .loop .inv .long
 
 returns : tie.Need-returns Inv-loop μ-loop
 returns c =
     let at-run-at = c .before .before in
     let at-loop = at-run-at .before .before in
-    let at-start = start-of at-loop in
-    let g = laid-all (at-loop .loop .inv .0) (found-none (at-loop .loop .s) (at-loop .loop .reader) (at-run-at .run-at .ensures) (c .enum-told .given .1)) in
-    record { answer = g .0; bytes = g .1 ∙ ap (λ (l : List ℕ). laid l start (at-start .args .s .now)) (at-loop .loop .inv .1) }
+    laid-all (at-loop .loop .inv) (found-none (at-loop .loop .s) (at-loop .loop .reader) (at-run-at .run-at .ensures) (c .enum-told .given .1))
 
 pub lay-text-spec : {M : Type 1} → statement M
 lay-text-spec =
@@ -123,14 +109,14 @@ lay-text-spec =
     Inv-loop
     μ-loop
     (λ c κs. search needs)
-    (λ c κs. search needs)
     loop-holds
     run-at-requires
     (λ c. search needs)
     (λ c κs. search needs)
-    sub-fill
-    part-fill-start
-    part-fill-end
+    sub-lay
+    part-lay-start
+    part-lay-end
+    sub-part-of
     (λ c κs. search needs)
     (λ c κs. search needs)
     sub-count
