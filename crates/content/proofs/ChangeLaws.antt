@@ -207,13 +207,13 @@ update-taken s text e =
       (λ h. update-taken-where s text (h .0 ∙ sym n) (h .1)),
     )
 
--- As many characters as positions: each position has its own.
 none-left : {A : Type 0} (n : ℕ) → 0 ≡ 1 + n → A
 none-left n e = absurd (omega arith)
 
 one-more : (k n : ℕ) → suc k ≡ 1 + n → k ≡ n
 one-more k n e = omega arith
 
+-- As many characters as positions: each position has its own.
 laid-lands :
     (m : Mode) (s text : List ℕ) → length text ≡ field-positions-from m s → all-characters text ≡ true → at-fields m (laid text m s) ≡ text
 laid-lands m [] [] n e = refl

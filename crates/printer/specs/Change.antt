@@ -73,8 +73,7 @@ least-data Parameters = 38
 least-data Both = 39
 least-data Characters = 4
 
--- 01, What an accepted frame does: "An update lays its characters over the character positions of external fields on head 1, jets
--- ascending": the first jet takes as many characters as it has positions, the second those behind them.
+-- The jets of head 1, and how many field positions a jet has, and the head, both jets' together.
 abbrev pub first-of-head : Printer → Jet
 first-of-head p = jet-at p (head-jet 1 0)
 
@@ -84,6 +83,11 @@ second-of-head p = jet-at p (head-jet 1 1)
 abbrev pub positions : Jet → ℕ
 positions j = field-positions (message j)
 
+abbrev pub head-positions : Printer → ℕ
+head-positions p = positions (first-of-head p) + positions (second-of-head p)
+
+-- 01, What an accepted frame does: "An update lays its characters over the character positions of external fields on head 1, jets
+-- ascending": the first jet takes as many characters as it has positions, the second those behind them.
 abbrev pub updated-jet : Jet → List ℕ → Jet
 updated-jet j text = with-message j (laid text start (message j))
 
@@ -95,10 +99,7 @@ updated-head p text =
     (updated-jet (second-of-head p) (drop (positions (first-of-head p)) text))
 
 -- 01, Numbers: 11 "no field position on head 1". 02, Wish 3: 18 where the characters are not "exactly as many as the field positions on
--- head 1", both jets' together; 01, Numbers: 13 "an update byte is no character".
-abbrev pub head-positions : Printer → ℕ
-head-positions p = positions (first-of-head p) + positions (second-of-head p)
-
+-- head 1"; 01, Numbers: 13 "an update byte is no character".
 unfoldable pub update-fields : Printer → List ℕ → Order
 update-fields p text =
     change (test (ltb 0 (head-positions p)) 11 ∷ update-tests (head-positions p) text) (updated-head p text)

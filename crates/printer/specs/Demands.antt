@@ -118,8 +118,8 @@ AcknowledgedExactly =
 abbrev pub letters : Printer → ℕ → List ℕ
 letters p jet = tree-letters (tree-of (message (jet-at p jet)))
 
--- The same of an update, apart from its tests: the number that it gets by how many characters the fields on head 1 have. 01, Numbers: 11
--- "no field position on head 1"; 02, Wish 3: 18 unless it has "exactly as many"; 01, Numbers: 13 "an update byte is no character".
+-- What an update gets, apart from its tests: its number by how many characters the fields on head 1 have. 01, Numbers: 11 "no field
+-- position on head 1"; 02, Wish 3: 18 unless it has "exactly as many"; 01, Numbers: 13 "an update byte is no character".
 abbrev pub update-number : ℕ → List ℕ → ℕ
 update-number positions text =
     pick (eqb positions 0) 11 (pick (eqb (length text) positions) (pick (all-characters text) 0 13) 18)
