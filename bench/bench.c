@@ -15,11 +15,12 @@ static u8 asked;                                               // the number tha
 static size floor_stack;
 
 static u32 sum(const u8 *s, size n) { u32 c = 0; for (size i = 0; i < n; i++) c = 31 * c + s[i]; return c; }
-// what a call said: its number; of a receive also consumed, the lengths of the answer and the four strips, and a sum over the store; of what
-// is shown also its length and a sum over it
+// what a call said: its number, and behind a colon its place where it has one; of a receive also consumed, the lengths of the answer and
+// the four strips, and a sum over the store; of what is shown also its length and a sum over it
 static void report(const char *name, int what, size stack)
 {
     put("call "); put(name); put(" stack "); num(stack > floor_stack ? stack - floor_stack : 0); put(" said "); num(api_number());
+    if (api_place() >= 0) { put(":"); num((u64)api_place()); }
     if (what == 0) { for (int i = 0; i < 6; i++) { put(","); num(api_count(i)); } put(","); num(sum(store, sizeof store)); }
     if (what == 6) { put(","); num(shown_n); put(","); num(sum(shown, shown_n)); }
     put("\n");
@@ -113,6 +114,7 @@ static void alone(void)     // the calls that are lent no store
     again(); measure("fresh", 3);
     n = plain(in); n_in = n; measure("test-512", 4);
     n = mixed(in); n_in = n; measure("test-512-mixed", 4);
+    n = mixed(in); n_in = n; in[n - 2] = 0x7F; measure("test-512-10", 4);
     memset(in, 7, 550); n_in = 550; measure("build-550", 5);
 }
 static void with_store(void)
@@ -125,6 +127,7 @@ static void with_store(void)
     again(); frame(0x0A, A, sizeof A); measure("0A-small", 0);
     again(); d[0] = 1; n = plain(d + 1); frame(0x0A, d, 1 + n); measure("0A-512", 0);
     again(); d[0] = 1; n = mixed(d + 1); frame(0x0A, d, 1 + n); measure("0A-512-mixed", 0);
+    again(); d[0] = 1; n = mixed(d + 1); d[n - 1] = 0x7F; frame(0x0A, d, 1 + n); measure("0A-512-10", 0);
     again(); d[0] = 1; memcpy(d + 1, PARAM, 37); frame(0x0B, d, 38); measure("0B", 0);
     again(); d[0] = 1; memcpy(d + 1, PARAM, 37); n = plain(d + 38); frame(0x0C, d, 38 + n); measure("0C-512", 0);
     // number 1 is the first record and 79 none: the new one takes its place or goes behind the last, or has no room, 16
@@ -137,6 +140,10 @@ static void with_store(void)
     again(); d[0] = 1; d[1] = 78; frame(0x40, d, 2); measure("40-78", 0);
     again(); d[0] = 1; d[1] = 0; d[2] = 5; d[3] = 'I'; d[4] = 'T'; frame(0x42, d, 5); measure("42-2", 0);
     again(); d[0] = 1; d[1] = 0; d[2] = 3; memset(d + 3, 'Q', 508); frame(0x42, d, 511); measure("42-508", 0);
+    // only one of the states has characters from 3 on up to the 0Dh at 511: elsewhere the first two get 12 early, or 11
+    again(); d[0] = 1; d[1] = 0; d[2] = 4; memset(d + 3, 'Q', 508); frame(0x42, d, 511); measure("42-508-12", 0);
+    again(); d[0] = 1; d[1] = 0; d[2] = 3; memset(d + 3, 'Q', 507); d[510] = 0x7F; frame(0x42, d, 511); measure("42-508-13", 0);
+    again(); d[0] = 1; d[1] = 0xFF; d[2] = 0xFF; d[3] = 'I'; d[4] = 'T'; frame(0x42, d, 5); measure("42-far-12", 0);
     again(); d[0] = 1; frame(0x43, d, 1); measure("43", 0);
     again(); frame(0x52, d, 0); measure("52", 0);
     again(); frame(0x94, d, 0); measure("94", 0);
@@ -144,6 +151,7 @@ static void with_store(void)
     // head 1 has 960 field positions in one of the states and 64 in another: elsewhere these get 18, or 11 where there is none
     again(); update(1022); measure("update-1022", 0);
     again(); update(960); measure("update-960", 0);
+    again(); update(960); in[960] = 0x7F; measure("update-960-13", 0);
     again(); update(64); measure("update-64", 0);
     again(); update(10); measure("update-10", 0);
     again(); frame(0x0A, A, sizeof A); in[n_in - 1] ^= 1; measure("check-wrong", 0);

@@ -2,7 +2,7 @@
 import sys
 
 STACK, RAM, RATIO, TEST_RATIO = 2048, 16384 + 8192, 1.3, 1.0
-TEST = {"test-512", "test-512-mixed"}
+TEST = {"test-512", "test-512-mixed", "test-512-10"}
 out = sys.argv[1]
 calls, sizes, stores = {}, {}, []
 for line in open(out + "/table.tsv"):
@@ -65,7 +65,7 @@ for m in machines:
         (r, c, s), (one, oc, os, state) = highest(m, wanted)
         rows.append((words, m, f"{r:.3f} ({named(c, s)})", fits(r), f"{one:.3f} ({named(oc, os, state)}) {'yes' if fits(one) else 'no'}"))
     differ = [(c, s, t) for (k, c, s), states in calls.items() if k == m for t, by in states.items() if by["box"][0] != by["twin"][0]]
-    rows.append(("numbers, counts and sums are the twin's", m, f"{len(differ)} differ" + (f" ({named(*differ[0])})" if differ else ""), not differ, ""))
+    rows.append(("numbers, places, counts, sums are equal", m, f"{len(differ)} differ" + (f" ({named(*differ[0])})" if differ else ""), not differ, ""))
 divided = sizes["m0", "box", "divided"]
 rows.append(("no call of a dividing routine", "m0", f"{divided}", divided == 0, ""))
 print()

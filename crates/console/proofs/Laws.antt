@@ -10,15 +10,17 @@ use borrow.Author.Tests.{eq-eqb, ne-eqb, le-ltb, eqb-true}
 use lib.Dec.{eqb}
 use lib.ListN.{length, take, drop, length-drop}
 use lib.Seq.{take-append-seam, take-all}
-use Rattle.line.specs.Line.{line, lined, bytes-of, Writes}
+use Rattle.frame.specs.declared.given.Given.{Given}
+use Rattle.frame.specs.declared.given.Where.{Where}
+use Rattle.line.specs.Line.{given-text, line, lined, bytes-of, longest-given, Writes}
 use Rattle.line.specs.declared.Lined.{Lined}
 use Rattle.line.specs.declared.Lined.the-variants.{Short, Written}
-use Rattle.line.proofs.Laws.{length-line, most-digits, front-fits}
+use Rattle.line.proofs.Laws.{length-line, front-fits}
 use Rattle.calendar.specs.Clock.{date, moment}
 use Rattle.printer.specs.State.{state-size}
 use Rattle.printer.specs.Call.{Freshens}
 use Rattle.printer.specs.Order.{StoreChange, unchanged, store-after}
-use Rattle.printer.specs.Receive.{Handed, Outcome, Meets, Fulfils, Receives, handed, outcome, kept}
+use Rattle.printer.specs.Receive.{Handed, Outcome, Meets, Fulfils, Receives, given-by, handed, outcome, kept}
 use Rattle.printer.specs.Demands.{Call, hand-in, after, after-all, full}
 use Rattle.printer.specs.declared.answer.Answered.{Answered}
 use Rattle.printer.proofs.Accepting.{room-enough}
@@ -39,7 +41,7 @@ starts m r m′ f =
 pub no-line : (o : Outcome) → o .number ≡ 3 → line-of o ≡ []
 no-line o e = rw (eq-eqb (o .number) 3 e)
 
-pub a-line : (o : Outcome) → (o .number ≡ 3 → ⊥) → line-of o ≡ line (o .number) (o .answer)
+pub a-line : (o : Outcome) → (o .number ≡ 3 → ⊥) → line-of o ≡ line (given-by o) (o .answer)
 a-line o e = rw (ne-eqb (o .number) 3 e)
 
 -- With buffers of the stated size.
@@ -76,15 +78,20 @@ waits {m} {store} {s} text f e =
       line = ap (λ (l : List ℕ). l ++ drop (length l) text) none;
     }
 
--- Every line has its room.
-pub longest-line : (m : List ℕ) (h : Handed) → length (line (outcome m h .number) (outcome m h .answer)) ≤ line-size
-longest-line m h =
-    let o : Outcome = outcome m h in
-    omega (arith, length-line (o .number) (o .answer), most-digits (o .number), answer-fits m h)
+-- What is given, as it is handed back.
+abbrev back : Answered → Given
+back r = record { number = r .number; place = r .place }
 
-lined-there : (room number : ℕ) (answer : List ℕ) → length (line number answer) ≤ room → lined room number answer ≡ Written (length (line number answer))
+given-back : (x : Handed) {m answer strips : List ℕ} {r : Answered} {m′ answer′ strips′ : List ℕ} → Meets (outcome m x) m answer strips r m′ answer′ strips′ → back r ≡ given-by (outcome m x)
+given-back x p = ap₂ (λ (n : ℕ) (w : Where). record { number = n; place = w }) (p .gives) (p .places)
+
+-- Every line has its room.
+longest-line : (g : Given) (answer : List ℕ) → length (given-text g) ≤ longest-given → length answer ≤ 554 → length (line g answer) ≤ line-size
+longest-line g answer z h = omega (arith, length-line g answer, z, h)
+
+lined-there : (room : ℕ) (g : Given) (answer : List ℕ) → length (line g answer) ≤ room → lined room g answer ≡ Written (length (line g answer))
 unfolding lined
-lined-there room number answer h = rw (le-ltb room (length (line number answer)) h)
+lined-there room g answer h = rw (le-ltb room (length (line g answer)) h)
 
 size-there : (n k : ℕ) → Written n ≡ Written k → n ≡ k
 size-there n k e = ap size-of e
@@ -103,29 +110,28 @@ short-never k e = subst there (sym e) tt
 -- Another number: its line.
 pub answered : (x : Handed) {m answer strips : List ℕ} {r : Answered} {m′ answer′ strips′ : List ℕ} {text text′ : List ℕ} {l : Lined}
     → Meets (outcome m x) m answer strips r m′ answer′ strips′ → line-size ≤ length text
-    → Writes text (r .number) (take (r .answer) answer′) l text′ → l ≡ Written (length (line (outcome m x .number) (outcome m x .answer)))
-answered x {m} {r = r} {answer′ = answer′} {text = text} p h w =
+    → Writes text (back r) (take (r .answer) answer′) l text′ → l ≡ Written (length (line (given-by (outcome m x)) (outcome m x .answer)))
+answered x {m} {r = r} {text = text} p h w =
     let o : Outcome = outcome m x in
     w .answered
-    ∙ ap (λ (n : ℕ). lined (length text) n (take (r .answer) answer′)) (p .gives)
-    ∙ ap (λ (a : List ℕ). lined (length text) (o .number) a) (answer-taken p)
-    ∙ lined-there (length text) (o .number) (o .answer) (omega (arith, longest-line m x))
+    ∙ ap (lined (length text) (back r)) (answer-taken p)
+    ∙ lined-there (length text) (back r) (o .answer) (omega (arith, longest-line (back r) (o .answer) (w .short) (answer-fits m x)))
+    ∙ ap (λ (g : Given). Written (length (line g (o .answer)))) (given-back x p)
 
 pub never-short : (x : Handed) {m answer strips : List ℕ} {r : Answered} {m′ answer′ strips′ : List ℕ} {text text′ : List ℕ} {l : Lined} {A : Type 0}
     → Meets (outcome m x) m answer strips r m′ answer′ strips′ → line-size ≤ length text
-    → Writes text (r .number) (take (r .answer) answer′) l text′ → l ≡ Short → A
+    → Writes text (back r) (take (r .answer) answer′) l text′ → l ≡ Short → A
 never-short x p h w e = absurd (short-never _ (sym e ∙ answered x p h w))
 
 pub turns : {m store s answer strips : List ℕ} {r : Answered} {m′ store′ answer′ strips′ : List ℕ} {text text′ : List ℕ} {l : Lined} (n : ℕ)
     → Fulfils (outcome m (full store s)) m store answer strips r m′ store′ answer′ strips′ → line-size ≤ length text
-    → Writes text (r .number) (take (r .answer) answer′) l text′ → (r .number ≡ 3 → ⊥) → l ≡ Written n
+    → Writes text (back r) (take (r .answer) answer′) l text′ → (r .number ≡ 3 → ⊥) → l ≡ Written n
     → Turns m store s text (record { size = n; consumed = r .consumed }) m′ store′ text′
 turns {m} {store} {s} {r = r} {answer′ = answer′} {text = text} {text′ = text′} n f h w z e =
     let o : Outcome = outcome m (full store s) in
     let p = f .meets in
-    let its : line (o .number) (o .answer) ≡ line-of o = sym (a-line o (λ t. z (p .gives ∙ t))) in
-    let same : line (r .number) (take (r .answer) answer′) ≡ line-of o =
-    ap (λ (k : ℕ). line k (take (r .answer) answer′)) (p .gives) ∙ ap (λ (a : List ℕ). line (o .number) a) (answer-taken p) ∙ its in
+    let its : line (given-by o) (o .answer) ≡ line-of o = sym (a-line o (λ t. z (p .gives ∙ t))) in
+    let same : line (back r) (take (r .answer) answer′) ≡ line-of o = ap₂ line (given-back (full store s) p) (answer-taken p) ∙ its in
     record {
       size = size-there n _ (sym e ∙ answered (full store s) p h w) ∙ ap length its;
       consumed = p .consumes;
@@ -133,7 +139,7 @@ turns {m} {store} {s} {r = r} {answer′ = answer′} {text = text} {text′ = t
       stores = f .stores;
       line =
           w .buffer
-          ∙ ap (λ (q : Lined). bytes-of q (r .number) (take (r .answer) answer′) ++ drop (length (bytes-of q (r .number) (take (r .answer) answer′))) text) e
+          ∙ ap (λ (q : Lined). bytes-of q (back r) (take (r .answer) answer′) ++ drop (length (bytes-of q (back r) (take (r .answer) answer′))) text) e
           ∙ ap (λ (x : List ℕ). x ++ drop (length x) text) same;
     }
 
@@ -164,8 +170,8 @@ waiting o e = go (eqb (o .number) 3) refl
     go : (t : Bool) → eqb (o .number) 3 ≡ t → o .number ≡ 3
     go true h = eqb-true (o .number) 3 h
     go false h =
-        let n : length (line (o .number) (o .answer)) ≡ 0 = rw h at e in
-        absurd (omega (arith, length-line (o .number) (o .answer)))
+        let n : length (line (given-by o) (o .answer)) ≡ 0 = rw h at e in
+        absurd (omega (arith, length-line (given-by o) (o .answer)))
 
 stays : (o : Outcome) (m : List ℕ) → o .number ≡ 3 → kept o m ≡ m
 stays o m e = rw (ne-eqb (o .number) 0 (λ z. omega arith))

@@ -11,7 +11,7 @@ use Rattle.calendar.specs.Clock.{date, moment}
 use Rattle.printer.specs.State.{bytes-of, state-size}
 use Rattle.printer.specs.Call.{fresh}
 use Rattle.printer.specs.Order.{store-after}
-use Rattle.printer.specs.Receive.{Handed, Outcome, outcome, kept}
+use Rattle.printer.specs.Receive.{Handed, Outcome, given-by, outcome, kept}
 use Rattle.printer.specs.Demands.{Call, hand-in, after-all, full}
 use Rattle.console.specs.declared.Turn.{Turn}
 use Rattle.console.specs.declared.Ran.{Ran}
@@ -24,17 +24,18 @@ start-state = bytes-of (fresh 1 (moment 58 59 23 (date 29 2 24)))
 abbrev pub start-store : List ℕ
 start-store = replicate 8192 0x00
 
--- 01, the same: it "prints one line a call: number, space, answer in capital hex without gaps [..]; 3 isn't printed".
+-- 01, the same: it "prints one line a call: number, space, answer in capital hex without gaps [..]; 3 isn't printed". 02, Wish 4: a place
+-- stands "after the number and a colon".
 abbrev pub shown : Bool → List ℕ → List ℕ
 shown true l = []
 shown false l = l
 
 abbrev pub line-of : Outcome → List ℕ
-line-of o = shown (eqb (o .number) 3) (line (o .number) (o .answer))
+line-of o = shown (eqb (o .number) 3) (line (given-by o) (o .answer))
 
--- A number of up to three digits, a space, the longest answer's 554 bytes in hex, a newline.
+-- A number of up to three digits, a colon, a place of up to twenty, a space, the longest answer's 554 bytes in hex, a newline.
 abbrev pub line-size : ℕ
-line-size = 1113
+line-size = 1134
 
 -- How far a walk has come: the calls that were made, the store behind them, and the place in the bytes.
 pub record Stand : Type 0 where

@@ -1,6 +1,7 @@
 // The console of document 01: a fresh printer of type 1 with an empty store is fed standard input, and each call is a line, but for one that waits for more.
 use calendar::clock::Clock;
 use calendar::clock::Date;
+use frame::given::Given;
 use library::store::STORE;
 use line::Lined;
 use line::write_line;
@@ -14,8 +15,8 @@ ghost use lib.ListN.{length};
 ghost use mathlib.Core.Path.{_≡_};
 ghost use Rattle.console.specs.Console.{line-size, Runs, start-state, start-store, Starts, Turns};
 
-// A number of up to three digits, a space, the longest answer in hex, a newline.
-const LINE: usize = 1113;
+// A number of up to three digits, a colon, a place of up to twenty, a space, the longest answer in hex, a newline.
+const LINE: usize = 1134;
 
 // A fresh type 1 at 29 February 2024 23:59:58.
 fn start(state: &mut [u8])
@@ -52,11 +53,13 @@ fn call(state: &mut [u8], store: &mut [u8], s: &[u8], text: &mut [u8]) -> Turn
     let mut strips = [0; STRIPS];
     let done = receive(state, store, s, &mut answer, &mut strips);
     let consumed = done.consumed;
-    if done.number == 3 {
+    let number = done.number;
+    if number == 3 {
         return Turn { size: 0, consumed };
     }
+    let place = done.place;
     let n = done.answer;
-    let lined = write_line(text, done.number, &answer[..n]);
+    let lined = write_line(text, Given { number, place }, &answer[..n]);
     match lined {
         Lined::Short => Turn { size: 0, consumed },
         Lined::Written(size) => Turn { size, consumed },

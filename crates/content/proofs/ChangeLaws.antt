@@ -1,7 +1,7 @@
 -- A change of characters at character positions keeps verdict, marks and outline, and an accepted edit and an update are such changes and
 -- change no other bytes.
 use Prim.Native.Nat.{ℕ, zero, suc, _+_, _-_, _≤_, _<_}
-use mathlib.Core.Bool.{Bool, true, false}
+use mathlib.Core.Bool.{true, false}
 use mathlib.Core.List.{List, [], _∷_, _++_, append-nil}
 use mathlib.Core.Path.{_≡_, refl, sym, ap, _∙_}
 use native.Mathlib.Nat.{add-zero, suc-add, zero-add}
@@ -10,15 +10,12 @@ use borrow.Author.Tests.{eq-eqb, eqb-true}
 use lib.Dec.{eqb}
 use lib.ListN.{length, take, drop, getD, length-append, length-take, length-drop, take-append-drop, List·getD-append}
 use lib.Seq.{drop-nil, length-take-le, getD-append-add, getD-take, getD-drop}
-use Rattle.frame.specs.Ground.{unless}
 use Rattle.content.specs.Byte.{is-character, all-characters}
 use Rattle.content.specs.Machine.{Mode, start, step}
 use Rattle.content.specs.Content.{is-content, verdict}
 use Rattle.content.specs.Position.{at-fields, marks, mark-of, is-position, is-field-position, field-positions, field-positions-from}
-use Rattle.content.specs.Edit as edits
 use Rattle.content.specs.Edit.{addressed, edit-tests, edited, replaced}
 use Rattle.content.specs.Marks.{tree-letters}
-use Rattle.content.specs.Update as updates
 use Rattle.content.specs.Update.{laid, update-tests, updated}
 use Rattle.content.specs.ChangeLaws.{Changed, none, kept, changed, Kept, ChangeKeeps, EditChanges, EditStaysContent, EditLands, EditAddresses, EditElsewhere, UpdateChanges, UpdateStaysContent, UpdateTaken, UpdateLands, UpdateLetters, UpdateElsewhere, MarksOfContent, PositionsOfContent, RefusedEditLeaves, RefusedUpdateLeaves, EditKeepsLength, UpdateKeepsLength}
 use Rattle.content.specs.Tree.{tree-of}
@@ -28,7 +25,7 @@ use Rattle.content.specs.declared.edit.Edited.the-variants.{Done, Refuse
 use Rattle.content.specs.declared.test.Verdict.the-variants.{Good}
 use Rattle.content.specs.declared.update.Updated.the-variants as update
 use Rattle.content.specs.declared.update.Updated.the-variants.{Laid}
-use Rattle.frame.proofs.Ground.{never, both-true, checked-refuses, pick-case}
+use Rattle.frame.proofs.Ground.{accepted-all, never, both-true, checked-refuses, pick-case}
 use Rattle.content.proofs.Changes.{length-same, marks-same, no-structure, positions-same, read-same, rest-alike}
 use Rattle.content.proofs.Laws.{correct, field-positions-from-tree, letters-from-tree, marks-from-tree}
 
@@ -36,13 +33,13 @@ pub refused-edit-leaves : RefusedEditLeaves
 unfolding edited
 refused-edit-leaves s address symbols e =
     let r = checked-refuses (edit-tests s address symbols) e in
-    rw (r .gives edits.refused Done)
+    rw (r .gives Refused Done)
 
 pub refused-update-leaves : RefusedUpdateLeaves
 unfolding updated
 refused-update-leaves s text e =
     let r = checked-refuses (update-tests (field-positions s) text) e in
-    rw (r .gives updates.refused Laid)
+    rw (r .gives update.Refused Laid)
 
 pub marks-of-content : MarksOfContent
 marks-of-content s e = let t = correct s e in rw (t .1) at (marks-from-tree (tree-of s) (t .0))
@@ -93,15 +90,17 @@ replaced-changes m [] (suc a) (x ∷ xs) p q = never p
 replaced-changes m (b ∷ s) (suc a) symbols p q = rw suc-add (kept (replaced-changes (step m b) s a symbols p q))
 
 -- What the tests of an accepted edit came to.
-accepted : (x y : Bool) → unless x (Refused 12) (unless y (Refused 13) Done) ≡ Done → (x ≡ true) × (y ≡ true)
-accepted true true e = (refl, refl)
-accepted true false e = never (cc)
-accepted false y e = never (cc)
+edit-tells :
+    (s : List ℕ) (address : ℕ) (symbols : List ℕ) → edited s address symbols ≡ Done →
+    (addressed symbols (drop address (marks start s)) ≡ true) × (all-characters symbols ≡ true)
+unfolding edited
+edit-tells s address symbols e =
+    let h = both-true (addressed symbols (drop address (marks start s))) _ (accepted-all (edit-tests s address symbols) Refused Done (λ g q. never (cc)) e) in
+    (h .0, both-true (all-characters symbols) true (h .1) .0)
 
 pub edit-changes : EditChanges
-unfolding edited
 edit-changes s address symbols e =
-    let h = accepted (addressed symbols (drop address (marks start s))) (all-characters symbols) e in
+    let h = edit-tells s address symbols e in
     replaced-changes start s address symbols (h .0) (h .1)
 
 pub edit-stays-content : EditStaysContent
@@ -110,7 +109,7 @@ edit-stays-content s address symbols c e = stays-content s _ (edit-changes s add
 pub edit-keeps-length : EditKeepsLength
 edit-keeps-length s address symbols e = (change-keeps s _ (edit-changes s address symbols e)) .length-kept
 
-addressed-at :
+pub addressed-at :
     (symbols : List ℕ) (ms : List Mark) (k : ℕ) → addressed symbols ms ≡ true → k < length symbols →
     is-position (getD ms k Structure) ≡ true
 addressed-at [] ms k e h = absurd (omega arith)
@@ -119,9 +118,8 @@ addressed-at (x ∷ xs) (m ∷ ms) zero e h = (both-true (is-position m) (addres
 addressed-at (x ∷ xs) (m ∷ ms) (suc k) e h = addressed-at xs ms k ((both-true (is-position m) (addressed xs ms) e) .1) (omega arith)
 
 pub edit-addresses : EditAddresses
-unfolding edited
 edit-addresses s address symbols k v e h =
-    let t = accepted (addressed symbols (drop address (marks start s))) (all-characters symbols) e in
+    let t = edit-tells s address symbols e in
     rw (← marks-of-content s v, ← getD-drop address (marks start s) k Structure) (addressed-at symbols (drop address (marks start s)) k (t .0) h)
 
 -- Where the length stays, symbols lie within it.
@@ -189,12 +187,9 @@ update-stays-content s text c e = stays-content s _ (update-changes s text e) c
 -- What the tests of an update came to, both ways.
 pub update-tells : (s text : List ℕ) → updated s text ≡ Laid → (length text ≡ field-positions s) × (all-characters text ≡ true)
 unfolding updated
-update-tells s text e = go (eqb (length text) (field-positions s)) (all-characters text) refl refl e
-  where
-    go : (x y : Bool) → eqb (length text) (field-positions s) ≡ x → all-characters text ≡ y → unless x (update.Refused 18) (unless y (update.Refused 13) Laid) ≡ Laid → (length text ≡ field-positions s) × (all-characters text ≡ true)
-    go true true p q e = (eqb-true _ _ p, q)
-    go true false p q e = never (cc)
-    go false y p q e = never (cc)
+update-tells s text e =
+    let h = both-true (eqb (length text) (field-positions s)) _ (accepted-all (update-tests (field-positions s) text) update.Refused Laid (λ g q. never (cc)) e) in
+    (eqb-true (length text) (field-positions s) (h .0), both-true (all-characters text) true (h .1) .0)
 
 pub update-taken-where : (s text : List ℕ) → length text ≡ field-positions s → all-characters text ≡ true → updated s text ≡ Laid
 unfolding updated

@@ -1,12 +1,13 @@
 -- The bytes in a row that hold a test: one more of them, the first that doesn't, and the end.
-use Prim.Native.Nat.{ℕ, _+_, _≤_, _<_}
+use Prim.Native.Nat.{ℕ, suc, _+_, _≤_, _<_}
 use mathlib.Core.Bool.{Bool, true, false, not}
-use mathlib.Core.List.{List}
-use mathlib.Core.Path.{_≡_, sym, _∙_, ap}
+use mathlib.Core.List.{List, [], _∷_}
+use mathlib.Core.Path.{_≡_, refl, sym, _∙_, ap}
 use native.Mathlib.Omega.{arith}
 use borrow.Author.Tests.{not-true, not-false}
 use lib.ListN.{length, getD, drop, drop-of-length-le}
-use Rattle.content.specs.Byte.{is-character, is-code, code-of, in-front}
+use Rattle.frame.specs.Ground.{both, pick}
+use Rattle.content.specs.Byte.{all-characters, is-character, is-code, code-of, in-front}
 use Rattle.content.specs.Item.{characters-end, codes-end}
 use Rattle.content.specs.declared.byte.Coded.{Coded}
 use Rattle.frame.proofs.Ground.{drop-next}
@@ -45,3 +46,20 @@ characters-none s i h = front-end is-character s i h
 pub codes-none : (s : List ℕ) (i : ℕ) → length s ≤ i → codes-end s i ≡ i
 unfolding codes-end
 codes-none s i h = front-end (λ b. is-code (code-of b)) s i h
+
+-- Whether all bytes are characters, by how many of them stand in front.
+pub all-in-front : (s : List ℕ) → length s ≤ in-front is-character s → all-characters s ≡ true
+all-in-front [] h = refl
+all-in-front (b ∷ s) h = go (is-character b) h (all-in-front s)
+  where
+    go : (t : Bool) → suc (length s) ≤ pick t (suc (in-front is-character s)) 0 → (length s ≤ in-front is-character s → all-characters s ≡ true) → both t (all-characters s) ≡ true
+    go true h again = again (omega arith)
+    go false h again = absurd (omega arith)
+
+pub some-other : (s : List ℕ) → in-front is-character s < length s → all-characters s ≡ false
+some-other [] h = absurd (omega arith)
+some-other (b ∷ s) h = go (is-character b) h (some-other s)
+  where
+    go : (t : Bool) → pick t (suc (in-front is-character s)) 0 < suc (length s) → (in-front is-character s < length s → all-characters s ≡ false) → both t (all-characters s) ≡ false
+    go true h again = again (omega arith)
+    go false h again = refl

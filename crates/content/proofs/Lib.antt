@@ -1,6 +1,7 @@
--- The proofs of `content`: the samples; what the machine makes of bytes and trees; and from there the laws of the language, of changes
--- and of strips, and that every contract has one outcome.
+-- The proofs of `content`: the samples; what the machine makes of bytes and trees; and from there the laws of the language, of changes,
+-- of strips and of places, and that every contract has one outcome.
 pub mod Laws
+pub mod Hopeless
 pub mod Samples
 pub mod Bytes
 pub mod Front
@@ -13,6 +14,7 @@ pub mod Pieces
 pub mod Changes
 pub mod ChangeLaws
 pub mod StripLaws
+pub mod PlaceLaws
 pub mod Name
 pub mod NumberLaws
 pub mod Unique

@@ -1,15 +1,18 @@
 -- Marks in a row: the way of `run_at` from token to token, and what edits and updates make of each stretch of marks that it finds.
 use Prim.Native.Nat.{ℕ, zero, suc, _+_, _-_, _≤_, _<_}
 use mathlib.Core.Bool.{Bool, true, false}
-use mathlib.Core.List.{List, [], _∷_, _++_, append-assoc, append-nil}
+use mathlib.Core.List.{List, [], _∷_, _++_, append-assoc}
 use mathlib.Core.Path.{_≡_, refl, sym, _∙_, ap, subst}
-use native.Mathlib.Nat.{sub-zero, suc-sub-suc, not-suc-le-zero, le-of-suc-le-suc}
+use native.Mathlib.Nat.{add-zero}
 use native.Mathlib.Omega.{arith}
-use lib.ListN.{length, getD, drop, replicate, length-drop}
-use lib.Seq.{drop-drop}
-use Rattle.frame.specs.Ground.{pick, both}
-use Rattle.frame.proofs.Ground.{never, drop-next}
-use Rattle.content.specs.Edit.{addressed}
+use borrow.Author.Tests.{ltb-true, ltb-false}
+use lib.Dec.{ltb}
+use lib.ListN.{length, getD, drop, replicate, length-drop, length-replicate, getD-replicate, List·getD-append, List·getD-eq-default}
+use lib.Seq.{drop-at, drop-drop, getD-drop}
+use Rattle.frame.specs.Ground.{pick}
+use Rattle.frame.specs.declared.given.Where.the-variants.{Nowhere, At}
+use Rattle.frame.proofs.Ground.{never, true-both, drop-next}
+use Rattle.content.specs.Edit.{addressed, astray, strayed}
 use Rattle.content.specs.Item.{behind, counted, past, piece-at}
 use Rattle.content.specs.Machine.{Mode, start, step}
 use Rattle.content.specs.Position.{Runs, Stretch, field-positions-from, is-field-position, is-position, item-mark, mark-of, marks}
@@ -173,188 +176,151 @@ fields-none s at place seen e = fields-by-marks (here place seen) (drop at s) �
     none zero = refl
     none (suc n) = omega (arith, none n)
 
--- ---- Symbols that have to land on marks.
-drop-row : (n j : ℕ) (k : Mark) (ms : List Mark) → j ≤ n → drop j (replicate n k ++ ms) ≡ replicate (n - j) k ++ ms
-drop-row n zero k ms h = rw (sub-zero n)
-drop-row zero (suc j) k ms h = absurd (not-suc-le-zero h)
-drop-row (suc n) (suc j) k ms h = rw (suc-sub-suc n j) (drop-row n j k ms (le-of-suc-le-suc h))
+-- ---- Symbols that have to land on character positions.
+abbrev pub lands : List Mark → ℕ → Bool
+lands ms i = is-position (getD ms i Structure)
 
-drop-past : (n j : ℕ) (k : Mark) (ms : List Mark) → n ≤ j → drop j (replicate n k ++ ms) ≡ drop (j - n) ms
-drop-past zero j k ms h = rw (sub-zero j)
-drop-past (suc n) zero k ms h = absurd (not-suc-le-zero h)
-drop-past (suc n) (suc j) k ms h = rw (suc-sub-suc j n) (drop-past n j k ms (le-of-suc-le-suc h))
+abbrev pub AllLand : List Mark → ℕ → ℕ → Type 0
+AllLand ms from to = (k : ℕ) → from ≤ k → k < to → lands ms k ≡ true
 
-none-lands : (xs : List ℕ) (n : ℕ) (ms : List Mark) → 0 < length xs → 0 < n → addressed xs (replicate n Structure ++ ms) ≡ false
-none-lands [] n ms h g = absurd (not-suc-le-zero h)
-none-lands (x ∷ xs) zero ms h g = absurd (not-suc-le-zero g)
-none-lands (x ∷ xs) (suc n) ms h g = refl
+pub all-land : (xs : List ℕ) (ms : List Mark) → ((k : ℕ) → k < length xs → lands ms k ≡ true) → addressed xs ms ≡ true
+all-land [] ms h = refl
+all-land (x ∷ xs) [] h = never (h 0 (omega arith))
+all-land (x ∷ xs) (m ∷ ms) h = true-both (is-position m) (addressed xs ms) (h 0 (omega arith)) (all-land xs ms (λ k g. h (suc k) (omega arith)))
 
-all-land : (xs : List ℕ) (n : ℕ) (k : Mark) (ms : List Mark) → is-position k ≡ true → length xs ≤ n → addressed xs (replicate n k ++ ms) ≡ true
-all-land [] n k ms e h = refl
-all-land (x ∷ xs) zero k ms e h = absurd (not-suc-le-zero h)
-all-land (x ∷ xs) (suc n) k ms e h = rw e (all-land xs n k ms e (le-of-suc-le-suc h))
+pub one-strays : (xs : List ℕ) (ms : List Mark) (address i : ℕ) → i < length xs → lands ms i ≡ false → ((k : ℕ) → k < i → lands ms k ≡ true) → strayed address xs ms ≡ At (address + i)
+one-strays [] ms address i g e h = absurd (omega arith)
+one-strays (x ∷ xs) [] address zero g e h = rw add-zero
+one-strays (x ∷ xs) [] address (suc i) g e h = never (h 0 (omega arith))
+one-strays (x ∷ xs) (m ∷ ms) address zero g e h = rw (e, add-zero)
+one-strays (x ∷ xs) (m ∷ ms) address (suc i) g e h =
+    let n : address + 1 + i ≡ address + suc i = omega arith in
+    rw (h 0 (omega arith)) (one-strays xs ms (address + 1) i (omega arith) e (λ k l. h (suc k) (omega arith)) ∙ ap At n)
 
-some-land : (xs : List ℕ) (n : ℕ) (k : Mark) (ms : List Mark) → is-position k ≡ true → n ≤ length xs → addressed xs (replicate n k ++ ms) ≡ addressed (drop n xs) ms
-some-land xs zero k ms e h = refl
-some-land [] (suc n) k ms e h = absurd (not-suc-le-zero h)
-some-land (x ∷ xs) (suc n) k ms e h = rw e (some-land xs n k ms e (le-of-suc-le-suc h))
+-- The same by address.
+module _ (ms : List Mark) (address : ℕ) where
+  pub from-address : (k : ℕ) → address ≤ k → lands (drop address ms) (k - address) ≡ lands ms k
+  from-address k h = let e : address + (k - address) ≡ k = omega arith in ap is-position (getD-drop address ms (k - address) Structure ∙ ap (λ (i : ℕ). getD ms i Structure) e)
 
--- The same from the j-th mark on, where a marks of structure stand before b others.
-module _ (xs : List ℕ) (j a b : ℕ) (k : Mark) (ms : List Mark) where
-  lands-before : 0 < length xs → j < a → addressed xs (drop j (replicate a Structure ++ (replicate b k ++ ms))) ≡ false
-  lands-before h g = ap (addressed xs) (drop-row a j Structure (replicate b k ++ ms) (omega arith)) ∙ none-lands xs (a - j) (replicate b k ++ ms) h (omega arith)
+  behind-address : {n : ℕ} → AllLand ms address n → (k : ℕ) → address + k < n → lands (drop address ms) k ≡ true
+  behind-address h k g = ap is-position (getD-drop address ms k Structure) ∙ h (address + k) (omega arith) g
 
-  from-row : a ≤ j → j - a ≤ b → drop j (replicate a Structure ++ (replicate b k ++ ms)) ≡ replicate (b - (j - a)) k ++ ms
-  from-row h g = drop-past a j Structure (replicate b k ++ ms) h ∙ drop-row b (j - a) k ms g
+  pub all-addressed : (xs : List ℕ) → AllLand ms address (address + length xs) → addressed xs (drop address ms) ≡ true
+  all-addressed xs h = all-land xs (drop address ms) (λ k g. behind-address h k (omega arith))
 
-  lands-all : is-position k ≡ true → a ≤ j → (j - a) + length xs ≤ b → addressed xs (drop j (replicate a Structure ++ (replicate b k ++ ms))) ≡ true
-  lands-all e h g = ap (addressed xs) (from-row h (omega arith)) ∙ all-land xs (b - (j - a)) k ms e (omega arith)
+  pub none-strays : (xs : List ℕ) → AllLand ms address (address + length xs) → Nowhere ≡ strayed address xs (drop address ms)
+  none-strays xs h = rw (all-addressed xs h)
 
-  lands-some : is-position k ≡ true → a ≤ j → j - a ≤ b → b - (j - a) ≤ length xs → addressed xs (drop j (replicate a Structure ++ (replicate b k ++ ms))) ≡ addressed (drop (b - (j - a)) xs) ms
-  lands-some e h g l = ap (addressed xs) (from-row h g) ∙ some-land xs (b - (j - a)) k ms e l
+  pub strays-at : (xs : List ℕ) (i : ℕ) → address ≤ i → i < address + length xs → lands ms i ≡ false → AllLand ms address i → strayed address xs (drop address ms) ≡ At i
+  strays-at xs i a b e h =
+      let n : address + (i - address) ≡ i = omega arith in
+      one-strays xs (drop address ms) address (i - address) (omega arith) (from-address i a ∙ e) (λ k g. behind-address h k (omega arith)) ∙ ap At n
 
-  lands-behind : a + b ≤ j → addressed xs (drop j (replicate a Structure ++ (replicate b k ++ ms))) ≡ addressed xs (drop (j - (a + b)) ms)
-  lands-behind h =
-      let e : j - a - b ≡ j - (a + b) = omega arith in
-      ap (addressed xs) (drop-past a j Structure (replicate b k ++ ms) (omega arith) ∙ drop-past b (j - a) k ms (omega arith) ∙ ap (λ (i : ℕ). drop i ms) e)
-
-between : (a b c : ℕ) → a ≤ b → b ≤ c → (c - a) - (b - a) ≡ c - b
-between a b c h g = omega arith
-
-less : (a b c : ℕ) → b ≤ c → b - a ≤ c - a
-less a b c h = omega arith
-
-through : (a b c : ℕ) → a ≤ b → b ≤ c → (b - a) + (c - b) ≡ c - a
-through a b c h g = omega arith
-
-none : (a : ℕ) → a - a ≡ 0
-none a = omega arith
-
-shift : (at from first to : ℕ) → at ≤ first → first ≤ from → from < to → (to - first) - ((from - at) - (first - at)) ≡ to - from
-shift at from first to x h g = rw (between at first from x h) (between first from to h (omega arith))
-
--- The answer of the symbols that have to land from a place on, where the marks from another place on are still to be read.
-abbrev pub left : List ℕ → ℕ → List ℕ → ℕ → ℕ → Place → Seen → Bool
-left s address symbols from at place seen = addressed (drop (from - address) symbols) (drop (from - at) (marks (here place seen) (drop at s)))
-
-module _ (s : List ℕ) (address : ℕ) (symbols : List ℕ) where
-  pub all-left : addressed symbols (drop address (marks start s)) ≡ left s address symbols address 0 Content (record { lines = 0; fields = 0 })
-  all-left =
-      let e : address - address ≡ 0 = omega arith in
-      let f : address - 0 ≡ address = omega arith in
-      rw (e, f)
-
-  many : (from : ℕ) → address ≤ from → from < address + length symbols → length (drop (from - address) symbols) ≡ address + length symbols - from
-  many from a c = simp length-drop (omega arith)
-
-  pub left-none : (from at : ℕ) (place : Place) (seen : Seen) → address ≤ from → at ≤ from → from < address + length symbols → address + length symbols ≤ length s
-      → marks (here place seen) (drop at s) ≡ replicate (length s - at) Structure → left s address symbols from at place seen ≡ false
-  left-none from at place seen a b c l e =
-      ap (λ (ms : List Mark). addressed (drop (from - address) symbols) (drop (from - at) ms)) (e ∙ sym (append-nil (replicate (length s - at) Structure)))
-      ∙ ap (addressed (drop (from - address) symbols)) (drop-row (length s - at) (from - at) Structure [] (omega arith))
-      ∙ none-lands (drop (from - address) symbols) ((length s - at) - (from - at)) [] (omega (arith, many from a c)) (omega arith)
-
-  module _ {from at : ℕ} {place : Place} {seen : Seen} {k : Mark} {first to : ℕ} {place′ : Place} {seen′ : Seen} (r : Stretch s at place seen k first to place′ seen′)
-      (a : address ≤ from) (b : at ≤ from) (c : from < address + length symbols) where
-    here-marks : left s address symbols from at place seen
-        ≡ addressed (drop (from - address) symbols) (drop (from - at) (replicate (first - at) Structure ++ (replicate (to - first) k ++ marks (here place′ seen′) (drop to s))))
-    here-marks = ap (λ (ms : List Mark). addressed (drop (from - address) symbols) (drop (from - at) ms)) (r .same)
-
-    pub left-before : from < first → left s address symbols from at place seen ≡ false
-    left-before h = here-marks ∙ lands-before (drop (from - address) symbols) (from - at) (first - at) (to - first) k (marks (here place′ seen′) (drop to s)) (omega (arith, many from a c)) (omega arith)
-
-    pub left-all : first ≤ from → address + length symbols ≤ to → left s address symbols from at place seen ≡ true
-    left-all h g =
-        let x = r .ahead in
-        let y = r .some in
-        here-marks ∙ lands-all (drop (from - address) symbols) (from - at) (first - at) (to - first) k (marks (here place′ seen′) (drop to s)) (r .position) (omega arith) (omega (arith, many from a c))
-
-    pub left-some : first ≤ from → from < to → to < address + length symbols → left s address symbols from at place seen ≡ left s address symbols to to place′ seen′
-    left-some h g l =
-        here-marks
-        ∙ lands-some (drop (from - address) symbols) (from - at) (first - at) (to - first) k (marks (here place′ seen′) (drop to s)) (r .position)
-        (less at first from h) (rw (between at first from (r .ahead) h) (less first from to (omega arith)))
-        (rw (shift at from first to (r .ahead) h g, many from a c) (omega arith))
-        ∙ rw (shift at from first to (r .ahead) h g, none to)
-        (ap (λ (xs : List ℕ). addressed xs (marks (here place′ seen′) (drop to s))) (drop-drop (to - from) (from - address) symbols ∙ ap (λ (n : ℕ). drop n symbols) (through address from to a (omega arith))))
-
-    pub left-behind : to ≤ from → left s address symbols from at place seen ≡ left s address symbols from to place′ seen′
-    left-behind h =
-        let x = r .ahead in
-        let y = r .some in
-        let e : (from - at) - ((first - at) + (to - first)) ≡ from - to = omega arith in
-        here-marks ∙ lands-behind (drop (from - address) symbols) (from - at) (first - at) (to - first) k (marks (here place′ seen′) (drop to s)) (omega arith) ∙ rw e
-
-pub nothing-lands : (xs : List ℕ) (ms : List Mark) → length xs ≡ 0 → addressed xs ms ≡ true
-nothing-lands [] ms e = refl
-nothing-lands (x ∷ xs) ms e = absurd (omega arith)
-
-short-lands : (xs : List ℕ) (ms : List Mark) → length ms < length xs → addressed xs ms ≡ false
-short-lands [] ms h = absurd (not-suc-le-zero h)
-short-lands (x ∷ xs) [] h = refl
-short-lands (x ∷ xs) (m ∷ ms) h = go (is-position m) (short-lands xs ms (le-of-suc-le-suc h))
+-- What the answer tells of the test and of the place.
+pub strayed-at : (address : ℕ) (xs : List ℕ) (ms : List Mark) {i : ℕ} → strayed address xs ms ≡ At i → (addressed xs ms ≡ false) × (astray address xs ms ≡ i)
+strayed-at address xs ms {i} e = go (addressed xs ms) e
   where
-    go : (t : Bool) → addressed xs ms ≡ false → both t (addressed xs ms) ≡ false
-    go true e = e
-    go false e = refl
+    go : (t : Bool) → pick t Nowhere (At (astray address xs ms)) ≡ At i → (t ≡ false) × (astray address xs ms ≡ i)
+    go true e = let z : _≡_ {A = ℕ} 0 1 = cc in absurd (omega arith)
+    go false e = (refl, cc)
 
-pub too-many : (s : List ℕ) (address : ℕ) (symbols : List ℕ) → length s - address < length symbols → addressed symbols (drop address (marks start s)) ≡ false
-too-many s address symbols h =
-    let e : length (drop address (marks start s)) ≡ length s - address = length-drop address (marks start s) ∙ ap (λ (n : ℕ). n - address) (length-marks start s) in
-    short-lands symbols (drop address (marks start s)) (omega (arith, e, h))
+pub strayed-nowhere : (address : ℕ) (xs : List ℕ) (ms : List Mark) → strayed address xs ms ≡ Nowhere → addressed xs ms ≡ true
+strayed-nowhere address xs ms e = go (addressed xs ms) e
+  where
+    go : (t : Bool) → pick t Nowhere (At (astray address xs ms)) ≡ Nowhere → t ≡ true
+    go true e = refl
+    go false e = let z : _≡_ {A = ℕ} 0 1 = cc in absurd (omega arith)
 
--- The way of `addressed`: the symbols from a place on have still to land, and what is left from another place on gives the answer.
-pub record Landing (s : List ℕ) (address : ℕ) (symbols : List ℕ) (n end from at : ℕ) (place : Place) (seen : Seen) : Type 0 where
-  pub number : n ≡ length symbols
-  pub last : end ≡ address + n
-  pub room : end ≤ length s
+-- Marks in a row from a place up to another.
+record Row (ms : List Mark) (at to : ℕ) (k : Mark) (rest : List Mark) : Type 0 where
+  ahead : at ≤ to
+  same : drop at ms ≡ replicate (to - at) k ++ rest
+
+module _ {ms : List Mark} {at to : ℕ} {k : Mark} {rest : List Mark} (r : Row ms at to k rest) where
+  row-at : (j : ℕ) → at ≤ j → j < to → getD ms j Structure ≡ k
+  row-at j g l =
+      let n : j ≡ at + (j - at) = omega arith in
+      ap (λ (i : ℕ). getD ms i Structure) n
+      ∙ sym (getD-drop at ms (j - at) Structure)
+      ∙ ap (λ (l : List Mark). getD l (j - at) Structure) (r .same)
+      ∙ List·getD-append (replicate (to - at) k) rest Structure (j - at) (rw length-replicate (omega arith))
+      ∙ getD-replicate (to - at) (j - at) k Structure (omega arith)
+
+  row-past : drop to ms ≡ rest
+  row-past =
+      let n : to ≡ at + (to - at) = omega (arith, r .ahead) in
+      ap (λ (i : ℕ). drop i ms) n ∙ sym (drop-drop (to - at) at ms) ∙ ap (drop (to - at)) (r .same) ∙ drop-at (replicate (to - at) k) rest (to - at) (length-replicate (to - at) k)
+
+only-structure : (n i : ℕ) → getD (replicate n Structure) i Structure ≡ Structure
+only-structure zero i = refl
+only-structure (suc n) zero = refl
+only-structure (suc n) (suc i) = only-structure n i
+
+-- The way of `strayed`: the symbols before a place have landed, and the marks from another place on are still to be read.
+pub record Landing (s : List ℕ) (address : ℕ) (symbols : List ℕ) (end from at : ℕ) (place : Place) (seen : Seen) : Type 0 where
+  pub last : end ≡ address + length symbols
   pub low : address ≤ from
   pub ahead : at ≤ from
   pub more : from < end
   pub inside : at ≤ length s
-  pub same : addressed symbols (drop address (marks start s)) ≡ left s address symbols from at place seen
+  pub same : drop at (marks start s) ≡ marks (here place seen) (drop at s)
+  pub landed : AllLand (marks start s) address from
 
-pub not-landed : (s : List ℕ) (address : ℕ) (symbols : List ℕ) → 0 < length symbols → address + length symbols ≤ length s
-    → Landing s address symbols (length symbols) (address + length symbols) address 0 Content (record { lines = 0; fields = 0 })
-not-landed s address symbols h g =
-    record { number = refl; last = refl; room = g; low = omega arith; ahead = omega arith; more = omega arith; inside = omega arith; same = all-left s address symbols }
+pub not-landed : (s : List ℕ) (address : ℕ) (symbols : List ℕ) → 0 < length symbols → Landing s address symbols (address + length symbols) address 0 Content (record { lines = 0; fields = 0 })
+not-landed s address symbols h =
+    record { last = refl; low = omega arith; ahead = omega arith; more = omega arith; inside = omega arith; same = refl; landed = λ k a b. absurd (omega arith) }
 
-module _ {s : List ℕ} {address : ℕ} {symbols : List ℕ} {n end from at : ℕ} {place : Place} {seen : Seen} (l : Landing s address symbols n end from at place seen) where
-  over-all : from < address + length symbols
-  over-all = omega (arith, l .more, l .last, l .number)
+-- Behind the last byte there are no positions.
+pub behind-strays : (s : List ℕ) (address : ℕ) (symbols : List ℕ) → 0 < length symbols → length s ≤ address → strayed address symbols (drop address (marks start s)) ≡ At address
+behind-strays s address symbols h g =
+    strays-at (marks start s) address symbols address (omega arith) (omega arith)
+    (ap is-position (List·getD-eq-default (marks start s) Structure {n = address} (rw length-marks g))) (λ k a b. absurd (omega arith))
+
+module _ {s : List ℕ} {address : ℕ} {symbols : List ℕ} {end from at : ℕ} {place : Place} {seen : Seen} (l : Landing s address symbols end from at place seen) where
+  strays-here : lands (marks start s) from ≡ false → At from ≡ strayed address symbols (drop address (marks start s))
+  strays-here e = sym (strays-at (marks start s) address symbols from (l .low) (omega (arith, l .last, l .more)) e (l .landed))
 
   module _ {k : Mark} {first to : ℕ} {place′ : Place} {seen′ : Seen} (r : Stretch s at place seen k first to place′ seen′) where
-    pub lands-not : from < first → false ≡ addressed symbols (drop address (marks start s))
-    lands-not h = sym (l .same ∙ left-before s address symbols r (l .low) (l .ahead) over-all h)
+    before : Row (marks start s) at first Structure (replicate (to - first) k ++ marks (here place′ seen′) (drop to s))
+    before = record { ahead = r .ahead; same = l .same ∙ r .same }
 
-    pub lands-whole : first ≤ from → end ≤ to → true ≡ addressed symbols (drop address (marks start s))
-    lands-whole h g = sym (l .same ∙ left-all s address symbols r (l .low) (l .ahead) over-all h (omega (arith, g, l .last, l .number)))
+    stretch : Row (marks start s) first to k (marks (here place′ seen′) (drop to s))
+    stretch = record { ahead = omega (arith, r .some); same = row-past before }
 
-    pub lands-part : first ≤ from → from < to → to < end → Landing s address symbols n end to to place′ seen′
-    lands-part h g e =
+    pub lands-not : from < first → At from ≡ strayed address symbols (drop address (marks start s))
+    lands-not h = strays-here (ap is-position (row-at before from (l .ahead) h))
+
+    lands-through : first ≤ from → AllLand (marks start s) address to
+    lands-through h j a b = go (ltb j from) refl
+      where
+        go : (t : Bool) → ltb j from ≡ t → lands (marks start s) j ≡ true
+        go true e = l .landed j a (ltb-true j from e)
+        go false e = ap is-position (row-at stretch j (omega (arith, ltb-false j from e)) b) ∙ r .position
+
+    pub lands-whole : first ≤ from → end ≤ to → Nowhere ≡ strayed address symbols (drop address (marks start s))
+    lands-whole h g = none-strays (marks start s) address symbols (λ j a b. lands-through h j a (omega (arith, b, g, l .last, r .inside)))
+
+    lands-on : (from′ : ℕ) → from ≤ from′ → to ≤ from′ → from′ < end → AllLand (marks start s) address from′ → Landing s address symbols end from′ to place′ seen′
+    lands-on from′ h g e f =
         record {
-          number = l .number;
           last = l .last;
-          room = l .room;
-          low = omega (arith, l .low, g);
-          ahead = omega arith;
+          low = omega (arith, l .low, h);
+          ahead = g;
           more = e;
           inside = r .inside;
-          same = l .same ∙ left-some s address symbols r (l .low) (l .ahead) over-all h g (omega (arith, e, l .last, l .number));
+          same = row-past stretch;
+          landed = f;
         }
 
-    pub lands-later : to ≤ from → Landing s address symbols n end from to place′ seen′
-    lands-later h =
-        record {
-          number = l .number;
-          last = l .last;
-          room = l .room;
-          low = l .low;
-          ahead = h;
-          more = l .more;
-          inside = r .inside;
-          same = l .same ∙ left-behind s address symbols r (l .low) (l .ahead) over-all h;
-        }
+    pub lands-part : first ≤ from → from < to → to < end → Landing s address symbols end to to place′ seen′
+    lands-part h g e = lands-on to (omega arith) (omega arith) e (lands-through h)
 
-  pub lands-nowhere : marks (here place seen) (drop at s) ≡ replicate (length s - at) Structure → false ≡ addressed symbols (drop address (marks start s))
-  lands-nowhere e = sym (l .same ∙ left-none s address symbols from at place seen (l .low) (l .ahead) over-all (omega (arith, l .room, l .last, l .number)) e)
+    pub lands-later : to ≤ from → Landing s address symbols end from to place′ seen′
+    lands-later h = lands-on from (omega arith) h (l .more) (l .landed)
+
+  pub lands-nowhere : marks (here place seen) (drop at s) ≡ replicate (length s - at) Structure → At from ≡ strayed address symbols (drop address (marks start s))
+  lands-nowhere e =
+      strays-here
+      (sym (from-address (marks start s) at from (l .ahead))
+      ∙ ap (λ (ms : List Mark). lands ms (from - at)) (l .same ∙ e)
+      ∙ ap is-position (only-structure (length s - at) (from - at)))

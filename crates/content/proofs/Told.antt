@@ -1,29 +1,53 @@
--- What the tests say of an answer: its number is that of the first that fails, and a strip's length is that of the bytes written.
+-- What the tests say of an answer: its number and place are those of the first that fails, and a strip's length is that of the bytes written.
 use Prim.Native.Nat.{ℕ}
+use mathlib.Core.Bool.{Bool, true, false}
 use mathlib.Core.List.{List}
 use mathlib.Core.Path.{_≡_, refl, sym, _∙_, ap, subst}
+use native.Mathlib.Omega.{arith}
 use lib.ListN.{length}
-use Rattle.frame.specs.Ground.{Test, over}
-use Rattle.frame.specs.Build.{length-given, number}
+use Rattle.frame.specs.Ground.{Test, over, placed, plain}
+use Rattle.frame.specs.declared.given.Given.{Given}
+use Rattle.frame.specs.Build.{given-by, length-given}
 use Rattle.frame.specs.declared.build.Built.{Built}
-use Rattle.frame.specs.declared.build.Built.the-variants.{Written}
+use Rattle.frame.specs.declared.build.Built.the-variants.{Refused, Written}
+use Rattle.content.specs.Content.{Tests, is-content, tested, wrong-place}
 use Rattle.content.specs.Edit as edits
 use Rattle.content.specs.Update as updates
 use Rattle.content.specs.Position.{field-positions}
-use Rattle.content.specs.Strip.{Gives, refused, strip, strip-bytes, stripped}
+use Rattle.content.specs.Strip.{Gives, strip, strip-bytes, stripped}
 use Rattle.content.specs.declared.edit.Edited.{Edited}
+use Rattle.content.specs.declared.edit.Edited.the-variants as edit
 use Rattle.content.specs.declared.edit.Edited.the-variants.{Done}
 use Rattle.content.specs.declared.update.Updated.{Updated}
+use Rattle.content.specs.declared.update.Updated.the-variants as update
 use Rattle.content.specs.declared.update.Updated.the-variants.{Laid}
 use Rattle.content.specs.declared.strip.Values.{Values}
 use Rattle.frame.proofs.Ground.{checked-case, checked-map}
+
+-- What the test gives tells whether the bytes are a content.
+module _ {s : List ℕ} {g : Given} (t : Tests s g) where
+  pub test-accepts : g .number ≡ 0 → (is-content s ≡ true) × (g ≡ plain 0)
+  unfolding tested
+  test-accepts f = go (is-content s) refl
+    where
+      go : (b : Bool) → is-content s ≡ b → (b ≡ true) × (g ≡ plain 0)
+      go true q = (refl, t .answer ∙ rw q)
+      go false q = let n : g .number ≡ 10 = ap (λ (x : Given). x .number) (t .answer) ∙ rw q in absurd (omega (arith, f, n))
+
+  pub test-refuses : (g .number ≡ 0 → ⊥) → (is-content s ≡ false) × (g ≡ placed 10 (wrong-place s))
+  unfolding tested
+  test-refuses f = go (is-content s) refl
+    where
+      go : (b : Bool) → is-content s ≡ b → (b ≡ false) × (g ≡ placed 10 (wrong-place s))
+      go false q = (refl, t .answer ∙ rw q)
+      go true q = absurd (f (ap (λ (x : Given). x .number) (t .answer) ∙ rw q))
 
 pub edit-told :
     (s : List ℕ) (address : ℕ) (symbols : List ℕ) {r : Edited} {after : List ℕ} → r ≡ edits.edited s address symbols →
     after ≡ edits.bytes-after r s address symbols → edits.Edits s address symbols r after
 unfolding edits.edited
 edit-told s address symbols e f =
-    record { answer = e; first = ap edits.number e ∙ checked-map edits.number (edits.edit-tests s address symbols) edits.refused Done; bytes = f }
+    record { answer = e; first = ap edits.given-by e ∙ checked-map edits.given-by (edits.edit-tests s address symbols) edit.Refused Done; bytes = f }
 
 pub update-told :
     (s text : List ℕ) {r : Updated} {after : List ℕ} → r ≡ updates.updated s text →
@@ -32,7 +56,7 @@ unfolding updates.updated
 update-told s text e f =
     record {
       answer = e;
-      first = ap updates.number e ∙ checked-map updates.number (updates.update-tests (field-positions s) text) updates.refused Laid;
+      first = ap updates.given-by e ∙ checked-map updates.given-by (updates.update-tests (field-positions s) text) update.Refused Laid;
       bytes = f;
     }
 
@@ -45,10 +69,10 @@ strip-told tests v s before e f =
       answer = e;
       reports =
           record {
-            first = ap number e ∙ checked-map number tests refused (Written (length (strip v s)));
+            first = ap given-by e ∙ checked-map given-by tests Refused (Written (length (strip v s)));
             size =
                 subst (λ (x : Built). length-given x ≡ length (strip-bytes x v s)) (sym e)
-                (checked-case (λ (x : Built). length-given x ≡ length (strip-bytes x v s)) tests refused (Written (length (strip v s)))
+                (checked-case (λ (x : Built). length-given x ≡ length (strip-bytes x v s)) tests Refused (Written (length (strip v s)))
                 (λ t g. refl) (λ a. refl));
           };
       buffer = f;

@@ -1,5 +1,5 @@
 -- Every contract has one outcome: the answer is the rule's, and the bytes after go by the answer.
-use Rattle.content.specs.Unique.{ReadsUnique, TestsUnique, WithinUnique, AllCharactersUnique, IsContentUnique, FieldPositionsUnique, EditsUnique, LayTextUnique, UpdatesUnique, StripsUnique, PutsUnique}
+use Rattle.content.specs.Unique.{ReadsUnique, TestsUnique, WithinUnique, CharactersInFrontUnique, IsContentUnique, FieldPositionsUnique, EditsUnique, LayTextUnique, UpdatesUnique, StripsUnique, PutsUnique}
 
 pub reads-unique : ReadsUnique
 reads-unique s r r′ p q = cc
@@ -10,8 +10,8 @@ tests-unique s r r′ p q = cc
 pub within-unique : WithinUnique
 within-unique least most b r r′ p q = cc
 
-pub all-characters-unique : AllCharactersUnique
-all-characters-unique s r r′ p q = cc
+pub characters-in-front-unique : CharactersInFrontUnique
+characters-in-front-unique s r r′ p q = cc
 
 pub is-content-unique : IsContentUnique
 is-content-unique s r r′ p q = cc

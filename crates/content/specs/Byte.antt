@@ -27,6 +27,15 @@ abbrev pub all-characters : List ℕ → Bool
 all-characters [] = true
 all-characters (b ∷ s) = both (is-character b) (all-characters s)
 
+-- How many bytes in a row hold a test, from the first on.
+abbrev pub in-front : (ℕ → Bool) → List ℕ → ℕ
+in-front holds [] = 0
+in-front holds (b ∷ s) = pick (holds b) (suc (in-front holds s)) 0
+
+-- How many characters stand in front: so the index of the first byte that is none.
+abbrev pub characters-in-front : List ℕ → ℕ
+characters-in-front s = in-front is-character s
+
 -- 01, What a content is: the bytes that begin a line, end a content, enclose an item, begin a block, or are an item by themselves.
 unfoldable pub kind-of : ℕ → Kind
 kind-of b =
@@ -54,8 +63,3 @@ code-of b =
 abbrev pub is-code : Coded → Bool
 is-code (coded.Code c) = true
 is-code coded.Not = false
-
--- How many bytes in a row hold a test, from the first on.
-abbrev pub in-front : (ℕ → Bool) → List ℕ → ℕ
-in-front holds [] = 0
-in-front holds (b ∷ s) = pick (holds b) (suc (in-front holds s)) 0

@@ -5,7 +5,8 @@ use mathlib.Core.List.{List, [], _∷_}
 use mathlib.Core.Path.{_≡_}
 use lib.Dec.{leb}
 use lib.ListN.{length}
-use Rattle.frame.specs.Ground.{Test, both, first-failing, test}
+use Rattle.frame.specs.Ground.{Test, both, given, pick, test-at}
+use Rattle.frame.specs.declared.given.Given.{Given}
 use Rattle.content.specs.Machine.{Mode, Reading, Done, Bad, start, step}
 use Rattle.content.specs.declared.test.Verdict.{Verdict}
 use Rattle.content.specs.declared.test.Verdict.the-variants.{Good, Unfit}
@@ -43,17 +44,30 @@ longest-message = 512
 unfoldable pub is-content : List ℕ → Bool
 is-content s = both (leb (length s) longest-message) (is-good (verdict s))
 
--- 01, Other calls: "test a content (0 or 10), for our approval screen".
-abbrev pub content-tests : List ℕ → List Test
-content-tests s = test (is-content s) 10 ∷ []
+-- The place in a verdict; what is good has none, and none is told of it.
+abbrev pub unfit-place : Verdict → ℕ
+unfit-place Good = 0
+unfit-place (Unfit i) = i
 
-unfoldable pub tested : List ℕ → ℕ
-tested s = first-failing (content-tests s)
+-- 02, Wish 4: 10 carries "a place in the content: 512 if there are more than 512 bytes; else the first byte with which no good content can
+-- begin, leaving the 512 aside; else, if the bytes merely stop early, their count".
+unfoldable pub wrong-place : List ℕ → ℕ
+wrong-place s = pick (leb (length s) longest-message) (unfit-place (verdict s)) longest-message
+
+-- 01, Other calls: "test a content (0 or 10), for our approval screen".
+abbrev pub content-test : List ℕ → Test
+content-test s = test-at (is-content s) 10 (wrong-place s)
+
+abbrev pub content-tests : List ℕ → List Test
+content-tests s = content-test s ∷ []
+
+unfoldable pub tested : List ℕ → Given
+tested s = given (content-tests s)
 
 -- The contract of `read`.
 pub record Reads (s : List ℕ) (r : Verdict) : Type 0 where
   pub answer : r ≡ verdict s
 
 -- The contract of `test`.
-pub record Tests (s : List ℕ) (r : ℕ) : Type 0 where
+pub record Tests (s : List ℕ) (r : Given) : Type 0 where
   pub answer : r ≡ tested s

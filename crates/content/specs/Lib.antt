@@ -12,7 +12,9 @@ pub mod Grammar
 pub mod Marks
 pub mod Tree
 pub mod Laws
+pub mod Hopeless
 pub mod ChangeLaws
 pub mod StripLaws
+pub mod PlaceLaws
 pub mod NumberLaws
 pub mod Unique

@@ -12,6 +12,7 @@ use Rattle.content.specs.Edit.{Edits, edit-tests}
 use Rattle.content.specs.Update as update
 use Rattle.content.specs.Update.{Updates, update-tests}
 use Rattle.frame.specs.Build as build
+use Rattle.frame.specs.declared.given.Given.{Given}
 use Rattle.frame.specs.declared.build.Built.{Built}
 use Rattle.content.specs.Strip.{Puts, put-tests}
 use Rattle.content.specs.declared.edit.Edited.{Edited}
@@ -27,16 +28,16 @@ pub record InOrder : Type 0 where
 
 -- 01, Numbers: "the first that applies is given, and none otherwise". Of each call that gives a number.
 pub record CallsGiveFirst : Type 0 where
-  pub test : (s : List ℕ) (r : ℕ) → Tests s r → FirstGiven (content-tests s) r
+  pub test : (s : List ℕ) (r : Given) → Tests s r → FirstGiven (content-tests s) r
   pub edit :
       (before : List ℕ) (address : ℕ) (symbols : List ℕ) (r : Edited) (after : List ℕ) →
       Edits before address symbols r after →
-      FirstGiven (edit-tests before address symbols) (edit.number r)
+      FirstGiven (edit-tests before address symbols) (edit.given-by r)
   pub update :
       (before text : List ℕ) (r : Updated) (after : List ℕ) →
       Updates before text r after →
-      FirstGiven (update-tests (field-positions before) text) (update.number r)
+      FirstGiven (update-tests (field-positions before) text) (update.given-by r)
   pub put :
       (v : Values) (s before : List ℕ) (r : Built) (after : List ℕ) →
       Puts v s before r after →
-      FirstGiven (put-tests s (length before)) (build.number r)
+      FirstGiven (put-tests s (length before)) (build.given-by r)

@@ -4,13 +4,13 @@ use mathlib.Core.List.{List, [], _∷_, _++_}
 use mathlib.Core.Path.{_≡_}
 use lib.Dec.{eqb, leb}
 use lib.ListN.{length, getD, take, drop}
-use Rattle.frame.specs.Ground.{Refusal, Test, checked, over, pick, test}
+use Rattle.frame.specs.Ground.{Test, checked, over, pick, test}
 use Rattle.frame.specs.Build.{Reports}
 use Rattle.frame.specs.declared.build.Built.{Built}
 use Rattle.frame.specs.declared.build.Built.the-variants.{Refused, Written}
 use Rattle.content.specs.Byte.{kind-of, code-of}
 use Rattle.content.specs.Machine.{Spot, Inside, Font, TabulationCount, TabulationEnd, CounterNumber, CounterEnd, Mode, Reading, Done, Bad, start, step}
-use Rattle.content.specs.Content.{is-content}
+use Rattle.content.specs.Content.{content-test}
 use Rattle.content.specs.declared.byte.Code.{Code}
 use Rattle.content.specs.declared.byte.Code.the-variants.{Entry, Colon, Slash, Dot, Space}
 use Rattle.content.specs.declared.byte.Coded.{Coded}
@@ -110,21 +110,18 @@ put-at to bytes before = take to before ++ (bytes ++ drop (to + length bytes) be
 -- The strip writer's tests for a buffer with so much room: 10 for what is no content and so has no strip, then 2 where the strip doesn't
 -- fit.
 abbrev pub strip-tests : Values → List ℕ → ℕ → List Test
-strip-tests v s room = test (is-content s) 10 ∷ test (leb (length (strip v s)) room) 2 ∷ []
+strip-tests v s room = content-test s ∷ test (leb (length (strip v s)) room) 2 ∷ []
 
 -- Its test where it doesn't ask whether the bytes are a content, but for room for the longest strip that they could have.
 abbrev pub put-tests : List ℕ → ℕ → List Test
 put-tests s room = test (leb (3 * length s) room) 2 ∷ []
 
 -- The answer: the first test that fails, or the length of the strip.
-abbrev pub refused : Refusal → Built
-refused r = Refused (r .number)
-
 unfoldable pub stripped : List Test → Values → List ℕ → Built
-stripped tests v s = checked tests refused (Written (length (strip v s)))
+stripped tests v s = checked tests Refused (Written (length (strip v s)))
 
 abbrev pub strip-bytes : Built → Values → List ℕ → List ℕ
-strip-bytes (Refused k) v s = []
+strip-bytes (Refused g) v s = []
 strip-bytes (Written n) v s = strip v s
 
 -- What is given back, and over the buffer's front just the strip that it tells of.

@@ -4,7 +4,7 @@ use mathlib.Core.Bool.{Bool}
 use mathlib.Core.List.{List}
 use mathlib.Core.Path.{_≡_}
 use Rattle.frame.specs.Ground.{OneAnswer, OneOutcome, within}
-use Rattle.content.specs.Byte.{all-characters}
+use Rattle.content.specs.Byte.{characters-in-front}
 use Rattle.content.specs.Content.{Reads, Tests, is-content}
 use Rattle.content.specs.Edit.{Edits}
 use Rattle.content.specs.Machine.{start}
@@ -19,12 +19,12 @@ ReadsUnique = (s : List ℕ) → OneAnswer (Reads s)
 abbrev pub TestsUnique : Type 0
 TestsUnique = (s : List ℕ) → OneAnswer (Tests s)
 
--- `within`, `all_characters`, `is_content`, `field_positions` and `lay_text` have their rule's value as their contract.
+-- `within`, `characters_in_front`, `is_content`, `field_positions` and `lay_text` have their rule's value as their contract.
 abbrev pub WithinUnique : Type 0
 WithinUnique = (least most b : ℕ) → OneAnswer (λ (r : Bool). r ≡ within least most b)
 
-abbrev pub AllCharactersUnique : Type 0
-AllCharactersUnique = (s : List ℕ) → OneAnswer (λ (r : Bool). r ≡ all-characters s)
+abbrev pub CharactersInFrontUnique : Type 0
+CharactersInFrontUnique = (s : List ℕ) → OneAnswer (λ (r : ℕ). r ≡ characters-in-front s)
 
 abbrev pub IsContentUnique : Type 0
 IsContentUnique = (s : List ℕ) → OneAnswer (λ (r : Bool). r ≡ is-content s)

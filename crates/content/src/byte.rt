@@ -1,7 +1,7 @@
 // What a single byte may be: a kind of its own, or a code of a date item.
 ghost use mathlib.Core.Path.{_≡_};
 ghost use lib.ListN.{getD};
-ghost use Rattle.content.specs.Byte.{all-characters, code-of, is-character, is-code, is-count, is-expansion, kind-of};
+ghost use Rattle.content.specs.Byte.{code-of, is-character, is-code, is-count, is-expansion, kind-of};
 ghost use Rattle.frame.specs.Ground.{within};
 
 // What a byte can be at the place of an item.
@@ -61,20 +61,6 @@ pub(crate) fn is_count(b: u8) -> bool
     ensures { λ r. ⌜ r ≡ is-count b ⌝ }
 {
     within(1, 255, b)
-}
-
-// Whether all bytes are characters.
-pub fn all_characters(s: &[u8]) -> bool
-    ensures { λ r. ⌜ r ≡ all-characters (now (s .entry)) ⌝ }
-{
-    let mut i = 0;
-    while i < s.len() {
-        if !is_character(s[i]) {
-            return false;
-        }
-        i += 1;
-    }
-    true
 }
 
 pub(crate) fn kind_of(b: u8) -> Kind

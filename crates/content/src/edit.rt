@@ -1,36 +1,36 @@
 // The edit of 42h: all addresses, then all symbols, and only then the writing.
-use crate::byte::all_characters;
 use crate::item::begin;
+use crate::item::characters_in_front;
 use crate::position::Run;
 use crate::position::run_at;
 use frame::build::lay;
+use frame::given::Given;
+use frame::given::Where;
+use frame::given::placed;
 ghost use lib.ListN.{drop};
 ghost use mathlib.Core.Path.{_≡_};
-ghost use Rattle.content.specs.Edit.{Edits, addressed};
+ghost use Rattle.content.specs.Edit.{Edits, strayed};
 ghost use Rattle.content.specs.Machine.{start};
 ghost use Rattle.content.specs.Position.{marks};
 
 pub enum Edited {
     Done,
-    // The number.
-    Refused(u8),
+    // The number, and the address or the symbol's index.
+    Refused(Given),
 }
 
-// Whether each symbol lands on a character position.
-fn addressed(s: &[u8], address: usize, symbols: &[u8]) -> bool
-    ensures { λ r. ⌜ r ≡ addressed (now (symbols .entry)) (drop address (marks start (now (s .entry)))) ⌝ }
+// The first address at which a symbol would land on no character position, if there is one.
+fn strayed(s: &[u8], address: usize, symbols: &[u8]) -> Where
+    ensures { λ r. ⌜ r ≡ strayed address (now (symbols .entry)) (drop address (marks start (now (s .entry)))) ⌝ }
 {
     let n = symbols.len();
     if n == 0 {
-        return true;
+        return Where::Nowhere;
     }
-    if s.len() < n {
-        return false;
+    if s.len() <= address {
+        return Where::At(address);
     }
-    if s.len() - n < address {
-        return false;
-    }
-    // From here on the symbols have to land, and at the end all have.
+    // From here on the symbols have to land, and at the end all have; an end behind the last byte is never come to.
     let mut from = address;
     let end = address + n;
     let mut reader = begin();
@@ -43,10 +43,10 @@ fn addressed(s: &[u8], address: usize, symbols: &[u8]) -> bool
                 next,
             } => {
                 if from < first {
-                    return false;
+                    return Where::At(from);
                 }
                 if end <= next.at {
-                    return true;
+                    return Where::Nowhere;
                 }
                 if from < next.at {
                     from = next.at;
@@ -54,7 +54,7 @@ fn addressed(s: &[u8], address: usize, symbols: &[u8]) -> bool
                 reader = next;
             }
             Run::None => {
-                return false;
+                return Where::At(from);
             }
         }
     }
@@ -64,11 +64,16 @@ fn addressed(s: &[u8], address: usize, symbols: &[u8]) -> bool
 pub fn edit(s: &mut [u8], address: usize, symbols: &[u8]) -> Edited
     ensures { λ r. ⌜ Edits (now (s .entry)) address (now (symbols .entry)) r (now (s .exit)) ⌝ }
 {
-    if !addressed(s, address, symbols) {
-        return Edited::Refused(12);
+    let stray = strayed(s, address, symbols);
+    match stray {
+        Where::At(i) => {
+            return Edited::Refused(placed(12, i));
+        }
+        Where::Nowhere => {}
     }
-    if !all_characters(symbols) {
-        return Edited::Refused(13);
+    let i = characters_in_front(symbols);
+    if i < symbols.len() {
+        return Edited::Refused(placed(13, i));
     }
     if address <= s.len() {
         lay(&mut s[address..], symbols);

@@ -12,7 +12,7 @@ use crate::byte::kind_of;
 ghost use Prim.Native.Nat.{_≤_, _<_, _^_};
 ghost use lib.ListN.{length, getD};
 ghost use mathlib.Core.Path.{_≡_};
-ghost use Rattle.content.specs.Byte.{kind-of};
+ghost use Rattle.content.specs.Byte.{characters-in-front, kind-of};
 ghost use Rattle.content.specs.Item.{begin, behind, block-token, characters-end, closing, codes-end, content-token, counted, date-token, enclosed, field-token, item-at, line-token, one-byte, one-more, open-block, opened, opens, opening, passed, past, piece-at, token-at, whole-field};
 
 // At most so many lines and external fields.
@@ -163,6 +163,13 @@ fn characters_end(s: &[u8], at: usize) -> usize
         i += 1;
     }
     i
+}
+
+// How many characters stand in front: the index of the first byte that is none, or the count where all are.
+pub fn characters_in_front(s: &[u8]) -> usize
+    ensures { λ r. ⌜ r ≡ characters-in-front (now (s .entry)) ⌝ }
+{
+    characters_end(s, 0)
 }
 
 // The place behind the codes that stand in a row from a place on.

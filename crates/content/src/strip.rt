@@ -7,9 +7,10 @@ use crate::item::begin;
 use crate::item::past;
 use crate::item::token_at;
 use crate::test::MESSAGE;
-use crate::test::is_content;
+use crate::test::test;
 use frame::build::Built;
 use frame::build::lay;
+use frame::given::plain;
 ghost use Prim.Native.Nat.{_+_, _*_, _≤_};
 ghost use lib.Dec.{leb};
 ghost use lib.ListN.{length};
@@ -136,7 +137,7 @@ pub fn put_strip(s: &[u8], values: Values, out: &mut [u8]) -> Built
     ensures { λ r. ⌜ Puts values (now (s .entry)) (now (out .entry)) r (now (out .exit)) ⌝ }
 {
     if !room_for_three(s.len(), out.len()) {
-        return Built::Refused(2);
+        return Built::Refused(plain(2));
     }
     Built::Written(write(s, values, out))
 }
@@ -145,13 +146,14 @@ pub fn put_strip(s: &[u8], values: Values, out: &mut [u8]) -> Built
 pub fn write_strip(s: &[u8], values: Values, out: &mut [u8]) -> Built
     ensures { λ r. ⌜ Strips values (now (s .entry)) (now (out .entry)) r (now (out .exit)) ⌝ }
 {
-    if !is_content(s) {
-        return Built::Refused(10);
+    let tested = test(s);
+    if tested.number != 0 {
+        return Built::Refused(tested);
     }
     let mut whole = [0u8; 3 * MESSAGE];
     let n = write(s, values, &mut whole);
     if out.len() < n {
-        return Built::Refused(2);
+        return Built::Refused(plain(2));
     }
     lay(out, &whole[0..n]);
     Built::Written(n)

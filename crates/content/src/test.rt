@@ -8,6 +8,9 @@ use crate::item::Seen;
 use crate::item::Token;
 use crate::item::item_at;
 use crate::item::passed;
+use frame::given::Given;
+use frame::given::placed;
+use frame::given::plain;
 ghost use mathlib.Core.Path.{_≡_};
 ghost use Rattle.content.specs.Content.{Reads, Tests, is-content};
 
@@ -82,26 +85,26 @@ pub(crate) fn read(s: &[u8]) -> Verdict
     Verdict::Unfit(at)
 }
 
+// Document 01's test, for the approval screen: 0, or 10 and the place for what is no content.
+pub fn test(s: &[u8]) -> Given
+    ensures { λ r. ⌜ Tests (now (s .entry)) r ⌝ }
+{
+    if MESSAGE < s.len() {
+        return placed(10, MESSAGE);
+    }
+    let verdict = read(s);
+    match verdict {
+        Verdict::Unfit(i) => {
+            return placed(10, i);
+        }
+        Verdict::Good => {}
+    }
+    plain(0)
+}
+
 // Whether the bytes are a content.
 pub fn is_content(s: &[u8]) -> bool
     ensures { λ r. ⌜ r ≡ is-content (now (s .entry)) ⌝ }
 {
-    if MESSAGE < s.len() {
-        return false;
-    }
-    let verdict = read(s);
-    match verdict {
-        Verdict::Good => true,
-        Verdict::Unfit(_) => false,
-    }
-}
-
-// Document 01's test, for the approval screen: 0, or 10 for what is no content.
-pub fn test(s: &[u8]) -> u8
-    ensures { λ r. ⌜ Tests (now (s .entry)) r ⌝ }
-{
-    if is_content(s) {
-        return 0;
-    }
-    10
+    test(s).number == 0
 }

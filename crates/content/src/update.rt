@@ -1,11 +1,14 @@
 // The field update, as far as one content goes: every check stands before the first write.
-use crate::byte::all_characters;
 use crate::item::begin;
+use crate::item::characters_in_front;
 use crate::position::Run;
 use crate::position::field_positions;
 use crate::position::is_field_position;
 use crate::position::run_at;
 use frame::build::lay;
+use frame::given::Given;
+use frame::given::placed;
+use frame::given::plain;
 ghost use lib.ListN.{drop, take};
 ghost use mathlib.Core.Path.{_≡_};
 ghost use Rattle.content.specs.Machine.{start};
@@ -13,8 +16,8 @@ ghost use Rattle.content.specs.Update.{Updates, laid};
 
 pub enum Updated {
     Laid,
-    // The number.
-    Refused(u8),
+    // The number, and for 13 the character's index.
+    Refused(Given),
 }
 
 // A part of a text, from one of its characters on: n of them, or as many as there are.
@@ -60,10 +63,11 @@ pub fn update(s: &mut [u8], text: &[u8]) -> Updated
     ensures { λ r. ⌜ Updates (now (s .entry)) (now (text .entry)) r (now (s .exit)) ⌝ }
 {
     if text.len() != field_positions(s) {
-        return Updated::Refused(18);
+        return Updated::Refused(plain(18));
     }
-    if !all_characters(text) {
-        return Updated::Refused(13);
+    let i = characters_in_front(text);
+    if i < text.len() {
+        return Updated::Refused(placed(13, i));
     }
     lay_text(s, text);
     Updated::Laid

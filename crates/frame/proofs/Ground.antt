@@ -1,6 +1,6 @@
 -- What the proofs of all crates share: a set that turns the tests on the way to a return into the values of a rule's tests, and the laws of such tests, of tests in a row, of what there are several of, of a buffer that is written from its front, and of an update's text.
 use Prim.Native.Nat.{ℕ, zero, suc, _+_, _-_, _≤_, _<_, min}
-use mathlib.Core.Bool.{Bool, true, false}
+use mathlib.Core.Bool.{Bool, true, false, not}
 use mathlib.Core.List.{List, [], _∷_, _++_, append-assoc, append-nil}
 use mathlib.Core.Path.{_≡_, refl, sym, _∙_, ap, ap₂, subst}
 use native.Mathlib.Nat.{not-suc-le-zero, le-of-suc-le-suc}
@@ -12,7 +12,11 @@ use borrow.Rule.Slice.PartMut.{midOf, putMid}
 use lib.Dec.{eqb, leb, ltb}
 use lib.ListN.{length, getD, take, drop, set, length-append, length-take, length-drop, drop-of-length-le, take-append-drop, List·getD-eq-default}
 use lib.Seq.{drop-cons, drop-drop, drop-append-add, length-take-le, append-snoc, set-at, take-at, drop-at, take-all, take-length, getD-take, getD-drop}
-use Rattle.frame.specs.Ground.{pick, unless, both, Refusal, Test, checked, all, every, each, joined, within, over}
+use Rattle.frame.specs.Ground.{pick, unless, both, plain, Test, checked, given, first-failing, all, every, each, joined, within, over}
+use Rattle.frame.specs.declared.given.Given.{Given}
+use Rattle.frame.specs.declared.given.Where.{Where}
+use Rattle.frame.specs.declared.given.Where.the-variants.{Nowhere, At}
+use Rattle.frame.specs.Numbers.{has-place}
 use Rattle.frame.specs.Wire.{longest-update}
 use Rattle.frame.specs.Receive.{run, text-space}
 use Rattle.frame.specs.Build.{Lays}
@@ -55,7 +59,7 @@ true-within least most n p q = true-both (leb least n) (leb n most) (le-leb leas
 
 -- ---- Tests in a row.
 -- Where all hold, what is accepted is given.
-pub checked-all : {A : Type 0} (ts : List Test) (f : Refusal → A) (a : A) → all ts ≡ true → checked ts f a ≡ a
+pub checked-all : {A : Type 0} (ts : List Test) (f : Given → A) (a : A) → all ts ≡ true → checked ts f a ≡ a
 checked-all [] f a e = refl
 checked-all (t ∷ ts) f a e = let h = both-true (t .holds) (all ts) e in rw (h .0) (checked-all ts f a (h .1))
 
@@ -68,7 +72,7 @@ every-test p (t ∷ ts) = both (p t) (every-test p ts)
 pub record Refuses (ts : List Test) : Type 1 where
   pub failed : Test
   pub fails : failed .holds ≡ false
-  pub gives : {A : Type 0} (f : Refusal → A) (a : A) → checked ts f a ≡ f (failed .otherwise)
+  pub gives : {A : Type 0} (f : Given → A) (a : A) → checked ts f a ≡ f (failed .otherwise)
   pub among : (p : Test → Bool) → every-test p ts ≡ true → p failed ≡ true
 
 pub checked-refuses : (ts : List Test) → all ts ≡ false → Refuses ts
@@ -86,15 +90,23 @@ checked-refuses (t ∷ ts) e = go (t .holds) refl (λ q. checked-refuses ts q)
           among = λ p m. r .among p (both-true (p t) (every-test p ts) m .1);
         }
 
+-- So where what is accepted is given, and no refusal is like it, all hold.
+pub accepted-all : {A : Type 0} (ts : List Test) (f : Given → A) (a : A) → ((g : Given) → f g ≡ a → ⊥) → checked ts f a ≡ a → all ts ≡ true
+accepted-all ts f a n e = go (all ts) refl
+  where
+    go : (b : Bool) → all ts ≡ b → b ≡ true
+    go true q = refl
+    go false q = let r = checked-refuses ts q in absurd (n (r .failed .otherwise) (sym (r .gives f a) ∙ e))
+
 -- What holds of every refusal and of what is accepted holds of the answer.
-pub checked-case : {A : Type 0} (P : A → Type 0) (ts : List Test) (f : Refusal → A) (a : A)
+pub checked-case : {A : Type 0} (P : A → Type 0) (ts : List Test) (f : Given → A) (a : A)
     → ((t : Test) → t .holds ≡ false → P (f (t .otherwise))) → (all ts ≡ true → P a) → P (checked ts f a)
 checked-case P [] f a p q = q refl
 checked-case P (t ∷ ts) f a p q =
     unless-tells P (t .holds) _ _ (p t) (λ h. checked-case P ts f a p (λ m. q (true-both (t .holds) (all ts) h m)))
 
 -- What is made of an answer is made of each refusal and of what is accepted.
-pub checked-map : {A B : Type 0} (g : A → B) (ts : List Test) (f : Refusal → A) (a : A) → g (checked ts f a) ≡ checked ts (λ r. g (f r)) (g a)
+pub checked-map : {A B : Type 0} (g : A → B) (ts : List Test) (f : Given → A) (a : A) → g (checked ts f a) ≡ checked ts (λ r. g (f r)) (g a)
 checked-map g [] f a = refl
 checked-map g (t ∷ ts) f a = go (t .holds) (checked-map g ts f a)
   where
@@ -102,7 +114,30 @@ checked-map g (t ∷ ts) f a = go (t .holds) (checked-map g ts f a)
     go true again = again
     go false again = refl
 
-pub checked-append : {A : Type 0} (ts us : List Test) (f : Refusal → A) (a : A) → checked (ts ++ us) f a ≡ checked ts f (checked us f a)
+-- The number of what tests give; and where none of them has a place, the number is all that they give.
+pub given-number : (ts : List Test) → given ts .number ≡ first-failing ts
+given-number ts = checked-map (λ (g : Given). g .number) ts (λ r. r) (plain 0)
+
+abbrev pub placeless : List Test → Bool
+placeless [] = true
+placeless (t ∷ ts) = both (not (has-place (t .otherwise .place))) (placeless ts)
+
+pub plain-given : (ts : List Test) → placeless ts ≡ true → plain (first-failing ts) ≡ given ts
+plain-given [] e = refl
+plain-given (t ∷ ts) e =
+    let h = both-true (not (has-place (t .otherwise .place))) (placeless ts) e in
+    go (t .holds) (t .otherwise) (h .0) (plain-given ts (h .1))
+  where
+    alone : (n : ℕ) (w : Where) → not (has-place w) ≡ true → plain n ≡ record { number = n; place = w }
+    alone n Nowhere e = refl
+    alone n (At i) e = never e
+
+    go : (h : Bool) (g : Given) → not (has-place (g .place)) ≡ true → plain (first-failing ts) ≡ given ts
+        → plain (unless h (g .number) (first-failing ts)) ≡ unless h g (given ts)
+    go true g p again = again
+    go false g p again = alone (g .number) (g .place) p
+
+pub checked-append : {A : Type 0} (ts us : List Test) (f : Given → A) (a : A) → checked (ts ++ us) f a ≡ checked ts f (checked us f a)
 checked-append [] us f a = refl
 checked-append (t ∷ ts) us f a = rw (checked-append ts us f a)
 

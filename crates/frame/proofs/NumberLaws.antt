@@ -20,8 +20,8 @@ use Rattle.frame.specs.Build.{answer-tests, build-tests}
 use Rattle.frame.specs.NumberLaws.{not-whole, too-long, ThreeFourApart, NumbersGiven, frame-tests, is-frame, receive-tests, InOrder, CallsGiveFirst}
 use Rattle.frame.specs.declared.receive.Received.{Received}
 use Rattle.frame.specs.declared.receive.Received.the-variants.{Partial, Refused, Misfit, Enquiry, Update, Frame}
-use Rattle.frame.proofs.Ground.{pick-case, never}
-use Rattle.frame.proofs.Numbers.{first-given}
+use Rattle.frame.proofs.Ground.{pick-case, never, placeless}
+use Rattle.frame.proofs.Numbers.{first-given, first-number}
 use Rattle.frame.proofs.Laws.{verified, verified-case}
 
 -- ---- Numbers as tests.
@@ -219,11 +219,19 @@ in-order = record { receives = λ s. go (is-frame s) s; answers = λ room n. ref
     go true s = refl
     go false s = refl
 
+-- None of the receiver's numbers has a place.
+pub plain-received : (s : List ℕ) → placeless (receive-tests s) ≡ true
+plain-received s = go (is-frame s)
+  where
+    go : (b : Bool) → placeless (test (not (not-whole s)) 3 ∷ test (not (too-long s)) 4 ∷ pick b (frame-tests s) []) ≡ true
+    go true = refl
+    go false = refl
+
 pub calls-give-first : CallsGiveFirst
 calls-give-first =
     record {
-      receive = λ s r p. first-given (receive-tests s) (number r) (in-order .receives s) (ap number (p .answer) ∙ received-first s);
-      wrap = λ before identifier n r after p. first-given (answer-tests (length before) n) (build.number r) (in-order .answers (length before) n) (p .reports .first);
-      answer = λ before identifier d r after p. first-given (answer-tests (length before) (length d)) (build.number r) (in-order .answers (length before) (length d)) (p .reports .first);
-      build = λ before identifier d r after p. first-given (build-tests (length before) identifier (length d)) (build.number r) (in-order .builds (length before) identifier (length d)) (p .reports .first);
+      receive = λ s r p. first-number (receive-tests s) (number r) (in-order .receives s) (plain-received s) (ap number (p .answer) ∙ received-first s);
+      wrap = λ before identifier n r after p. first-given (answer-tests (length before) n) (build.given-by r) (in-order .answers (length before) n) (p .reports .first);
+      answer = λ before identifier d r after p. first-given (answer-tests (length before) (length d)) (build.given-by r) (in-order .answers (length before) (length d)) (p .reports .first);
+      build = λ before identifier d r after p. first-given (build-tests (length before) identifier (length d)) (build.given-by r) (in-order .builds (length before) identifier (length d)) (p .reports .first);
     }

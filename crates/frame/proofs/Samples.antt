@@ -4,6 +4,7 @@ use Prim.Native.Nat.{ℕ}
 use mathlib.Core.List.{List, [], _∷_, _++_, map}
 use mathlib.Core.Path.{_≡_, refl}
 use lib.ListN.{replicate}
+use Rattle.frame.specs.Ground.{plain}
 use Rattle.frame.specs.Wire.{size-of}
 use Rattle.frame.specs.Receive.{received, updated, framed, judged}
 use Rattle.frame.specs.Build.{frame, built}
@@ -81,13 +82,13 @@ sendings =
     ∷ sent 6144 0x42 5 (builder.Written 9)
     ∷ sent 554 0x1C 550 (builder.Written 554)
     ∷ sent 6 0x40 2 (builder.Written 6)
-    ∷ sent 3 0x94 0 (builder.Refused 2)
-    ∷ sent 553 0x0A 550 (builder.Refused 2)
-    ∷ sent 555 0x0A 551 (builder.Refused 4)
-    ∷ sent 4 0x9C 0 (builder.Refused 6)
-    ∷ sent 554 0x0A 551 (builder.Refused 2)
-    ∷ sent 3 0x9C 0 (builder.Refused 2)
-    ∷ sent 555 0x9C 551 (builder.Refused 4)
+    ∷ sent 3 0x94 0 (builder.Refused (plain 2))
+    ∷ sent 553 0x0A 550 (builder.Refused (plain 2))
+    ∷ sent 555 0x0A 551 (builder.Refused (plain 4))
+    ∷ sent 4 0x9C 0 (builder.Refused (plain 6))
+    ∷ sent 554 0x0A 551 (builder.Refused (plain 2))
+    ∷ sent 3 0x9C 0 (builder.Refused (plain 2))
+    ∷ sent 555 0x9C 551 (builder.Refused (plain 4))
     ∷ []
 
 pub sendings-hold : map (λ (s : Sent). built (s .room) (s .identifier) (s .size)) sendings ≡ map (λ (s : Sent). s .answer) sendings

@@ -7,9 +7,10 @@ use native.Mathlib.Omega.{arith}
 use borrow.Author.Tests.{le-leb}
 use lib.ListN.{length, take, drop, length-append, length-drop}
 use lib.Seq.{length-take-le}
-use Rattle.frame.specs.Ground.{Refusal, Test, all, over}
+use Rattle.frame.specs.Ground.{Test, all, over}
+use Rattle.frame.specs.declared.given.Given.{Given}
 use Rattle.frame.specs.Wire.{check, head-size, around, longest-data}
-use Rattle.frame.specs.Build.{frame, body, decided, answered, bytes-of, length-given, number, Reports, Wraps}
+use Rattle.frame.specs.Build.{frame, body, decided, answered, bytes-of, length-given, given-by, Reports, Wraps}
 use Rattle.frame.specs.declared.build.Built.{Built}
 use Rattle.frame.specs.declared.build.Built.the-variants.{Refused, Written}
 use Rattle.frame.proofs.Ground.{checked-all, checked-refuses, checked-case, checked-map}
@@ -18,16 +19,13 @@ pub frame-length : (identifier : ℕ) (d : List ℕ) → length (frame identifie
 unfolding frame
 frame-length identifier d = omega (arith, length-append d (check (body identifier d) ∷ []))
 
-abbrev refused : Refusal → Built
-refused refusal = Refused (refusal .number)
-
 pub reported : (tests : List Test) (n identifier : ℕ) (d : List ℕ) (r : Built) → r ≡ decided tests n → (all tests ≡ true → length d ≡ n) → Reports tests (bytes-of r identifier d) r
 reported tests n identifier d r e h =
     record {
-      first = ap number e ∙ checked-map number tests refused (Written (n + around));
+      first = ap given-by e ∙ checked-map given-by tests Refused (Written (n + around));
       size =
           subst (λ (x : Built). length-given x ≡ length (bytes-of x identifier d)) (sym e)
-          (checked-case (λ (x : Built). length-given x ≡ length (bytes-of x identifier d)) tests refused (Written (n + around))
+          (checked-case (λ (x : Built). length-given x ≡ length (bytes-of x identifier d)) tests Refused (Written (n + around))
           (λ t f. refl)
           (λ a. sym (frame-length identifier d ∙ ap (λ (k : ℕ). k + around) (h a))));
     }
@@ -53,11 +51,11 @@ accepted tests n m e = go (all tests) refl
     same : (k : ℕ) → Written n ≡ Written k → n ≡ k
     same k q = cc
 
-    never : (k : ℕ) → Written n ≡ Refused k → ⊥
-    never k q = let z : _≡_ {A = ℕ} 0 1 = cc in omega arith
+    never : (g : Given) → Written n ≡ Refused g → ⊥
+    never g q = let z : _≡_ {A = ℕ} 0 1 = cc in omega arith
 
     go : (b : Bool) → all tests ≡ b → (b ≡ true) × (n ≡ m + around)
-    go true q = (refl, same (m + around) (e ∙ checked-all tests refused (Written (m + around)) q))
+    go true q = (refl, same (m + around) (e ∙ checked-all tests Refused (Written (m + around)) q))
     go false q =
         let r = checked-refuses tests q in
-        absurd (never (r .failed .otherwise .number) (e ∙ r .gives refused (Written (m + around))))
+        absurd (never (r .failed .otherwise) (e ∙ r .gives Refused (Written (m + around))))

@@ -1,5 +1,11 @@
 -- Every contract has one outcome: the answer is the rule's, and the bytes after go by the answer.
-use Rattle.frame.specs.Unique.{WordsUnique, ReceivesUnique, LaysUnique, WrapsUnique, AnswersUnique, BuildsUnique}
+use Rattle.frame.specs.Unique.{PlainUnique, PlacedUnique, WordsUnique, ReceivesUnique, LaysUnique, WrapsUnique, AnswersUnique, BuildsUnique}
+
+pub plain-unique : PlainUnique
+plain-unique number r r′ p q = cc
+
+pub placed-unique : PlacedUnique
+placed-unique number place r r′ p q = cc
 
 pub words-unique : WordsUnique
 words-unique high low r r′ p q = cc

@@ -5,8 +5,9 @@ use mathlib.Core.List.{List, [], _∷_, _++_}
 use mathlib.Core.Path.{_≡_}
 use lib.Dec.{leb}
 use lib.ListN.{length, take, drop}
-use Rattle.frame.specs.Ground.{pick, Test, test, checked, first-failing, over}
+use Rattle.frame.specs.Ground.{pick, plain, Test, test, checked, given, over}
 use Rattle.frame.specs.Wire.{high, low, check, head-size, around, longest-data, size-of, listed}
+use Rattle.frame.specs.declared.given.Given.{Given}
 use Rattle.frame.specs.declared.build.Built.{Built}
 use Rattle.frame.specs.declared.build.Built.the-variants.{Refused, Written}
 
@@ -36,7 +37,7 @@ build-tests room identifier n = send-tests room (listed (size-of identifier)) n
 
 -- 01, Other calls: "nothing written; else its length".
 abbrev pub decided : List Test → ℕ → Built
-decided tests n = checked tests (λ refusal. Refused (refusal .number)) (Written (n + around))
+decided tests n = checked tests Refused (Written (n + around))
 
 unfoldable pub answered : ℕ → ℕ → Built
 answered room n = decided (answer-tests room n) n
@@ -46,21 +47,21 @@ built room identifier n = decided (build-tests room identifier n) n
 
 -- The bytes that an answer of the builder says are written.
 abbrev pub bytes-of : Built → ℕ → List ℕ → List ℕ
-bytes-of (Refused k) identifier d = []
+bytes-of (Refused g) identifier d = []
 bytes-of (Written n) identifier d = frame identifier d
 
--- Its number, and the length given back.
-abbrev pub number : Built → ℕ
-number (Refused k) = k
-number (Written n) = 0
+-- Its number, with the place where that has one, and the length given back.
+abbrev pub given-by : Built → Given
+given-by (Refused g) = g
+given-by (Written n) = plain 0
 
 abbrev pub length-given : Built → ℕ
-length-given (Refused k) = 0
+length-given (Refused g) = 0
 length-given (Written n) = n
 
 -- 01, Numbers: "the first that applies is given"; 01, Other calls: "else its length", of just the bytes that are written.
 pub record Reports (tests : List Test) (bytes : List ℕ) (r : Built) : Type 0 where
-  pub first : number r ≡ first-failing tests
+  pub first : given-by r ≡ given tests
   pub size : length-given r ≡ length bytes
 
 -- The contract of `lay`: bytes that fit are laid over the front, others leave the buffer alone.

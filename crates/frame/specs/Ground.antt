@@ -5,6 +5,8 @@ use mathlib.Core.List.{List, [], _∷_, _++_}
 use mathlib.Core.Path.{_≡_}
 use lib.Dec.{eqb, leb}
 use lib.ListN.{length, drop}
+use Rattle.frame.specs.declared.given.Given.{Given}
+use Rattle.frame.specs.declared.given.Where.the-variants.{Nowhere, At}
 
 -- The first where the test holds, else the second.
 abbrev pub pick : {A : Type 0} → Bool → A → A → A
@@ -21,24 +23,34 @@ abbrev pub both : Bool → Bool → Bool
 both true b = b
 both false b = false
 
--- A refusal: the number that is given.
-pub record Refusal : Type 0 where
-  pub number : ℕ
+-- What is given of a call: a number alone, or 02, Wish 4, a number that "shall carry a place".
+abbrev pub plain : ℕ → Given
+plain number = record { number = number; place = Nowhere }
 
--- A test, and the refusal of what fails it.
+abbrev pub placed : ℕ → ℕ → Given
+placed number i = record { number = number; place = At i }
+
+-- A test, and what is given where it fails: a number alone, or one with its place.
 pub record Test : Type 0 where
   pub holds : Bool
-  pub otherwise : Refusal
+  pub otherwise : Given
 
 abbrev pub test : Bool → ℕ → Test
-test holds number = record { holds = holds; otherwise = record { number = number } }
+test holds number = record { holds = holds; otherwise = plain number }
+
+abbrev pub test-at : Bool → ℕ → ℕ → Test
+test-at holds number i = record { holds = holds; otherwise = placed number i }
 
 -- 01, Numbers: "Checked in this order; the first that applies is given, and none otherwise."
-abbrev pub checked : {A : Type 0} → List Test → (Refusal → A) → A → A
+abbrev pub checked : {A : Type 0} → List Test → (Given → A) → A → A
 checked [] refuse accept = accept
 checked (t ∷ ts) refuse accept = unless (t .holds) (refuse (t .otherwise)) (checked ts refuse accept)
 
--- The number that they give; 0, done, where every test holds.
+-- What they give; 0, done, which has no place, where every test holds.
+abbrev pub given : List Test → Given
+given tests = checked tests (λ refusal. refusal) (plain 0)
+
+-- The number alone.
 abbrev pub first-failing : List Test → ℕ
 first-failing tests = checked tests (λ refusal. refusal .number) 0
 

@@ -6,7 +6,7 @@ use mathlib.Core.Logic.{_↔_}
 use mathlib.Core.Path.{_≡_}
 use lib.Dec.{eqb, leb, ltb}
 use lib.ListN.{length, getD, take}
-use Rattle.frame.specs.Ground.{pick, has, Test, test}
+use Rattle.frame.specs.Ground.{pick, has, plain, Test, test}
 use Rattle.frame.specs.Numbers.{in-order, FirstGiven}
 use Rattle.frame.specs.Wire.{enquiry, update-opens, update-closes, longest-update, update-marks, check, head-size, around, longest-data, size-of, listed, fits}
 use Rattle.frame.specs.Receive.{received, data-length, number, Receives}
@@ -72,13 +72,13 @@ pub record InOrder : Type 0 where
 
 -- 01, Numbers: "the first that applies is given, and none otherwise". Of each call that gives a number.
 pub record CallsGiveFirst : Type 0 where
-  pub receive : (s : List ℕ) (r : Received) → Receives s r → FirstGiven (receive-tests s) (number r)
+  pub receive : (s : List ℕ) (r : Received) → Receives s r → FirstGiven (receive-tests s) (plain (number r))
   pub wrap :
       (before : List ℕ) (identifier n : ℕ) (r : Built) (after : List ℕ)
-      → Wraps before identifier n r after → FirstGiven (answer-tests (length before) n) (build.number r)
+      → Wraps before identifier n r after → FirstGiven (answer-tests (length before) n) (build.given-by r)
   pub answer :
       (before : List ℕ) (identifier : ℕ) (d : List ℕ) (r : Built) (after : List ℕ)
-      → Answers before identifier d r after → FirstGiven (answer-tests (length before) (length d)) (build.number r)
+      → Answers before identifier d r after → FirstGiven (answer-tests (length before) (length d)) (build.given-by r)
   pub build :
       (before : List ℕ) (identifier : ℕ) (d : List ℕ) (r : Built) (after : List ℕ)
-      → Builds before identifier d r after → FirstGiven (build-tests (length before) identifier (length d)) (build.number r)
+      → Builds before identifier d r after → FirstGiven (build-tests (length before) identifier (length d)) (build.given-by r)

@@ -1,10 +1,19 @@
 -- Every contract has one outcome: two that meet it for the same inputs have the same answer and the same bytes after.
 use Prim.Native.Nat.{ℕ}
 use mathlib.Core.List.{List}
-use Rattle.frame.specs.Ground.{OneAnswer, OneOutcome}
+use mathlib.Core.Path.{_≡_}
+use Rattle.frame.specs.Ground.{OneAnswer, OneOutcome, placed, plain}
+use Rattle.frame.specs.declared.given.Given.{Given}
 use Rattle.frame.specs.Wire.{Words}
 use Rattle.frame.specs.Receive.{Receives}
 use Rattle.frame.specs.Build.{Lays, Wraps, Answers, Builds}
+
+-- `plain` and `placed` have their rule's value as their contract.
+abbrev pub PlainUnique : Type 0
+PlainUnique = (number : ℕ) → OneAnswer (λ (r : Given). r ≡ plain number)
+
+abbrev pub PlacedUnique : Type 0
+PlacedUnique = (number place : ℕ) → OneAnswer (λ (r : Given). r ≡ placed number place)
 
 abbrev pub WordsUnique : Type 0
 WordsUnique = (high low : ℕ) → OneAnswer (Words high low)

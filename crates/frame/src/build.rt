@@ -1,4 +1,6 @@
 // Frames are written over the front of a lent buffer; what doesn't fit is refused and nothing is written.
+use crate::given::Given;
+use crate::given::plain;
 use crate::wire::AROUND;
 use crate::wire::DATA;
 use crate::wire::HEAD;
@@ -15,7 +17,7 @@ ghost use Rattle.frame.specs.Build.{Answers, Builds, Lays, Sends, Wraps}
 pub enum Built {
     // Of a frame numbers 2, 4 and 6: the buffer is under data + 4, data is over 550, the identifier is not in the table.
     // Of a strip numbers 10 and 2: the bytes are no content, the buffer is too short.
-    Refused(u8),
+    Refused(Given),
     // The length of the frame, or of the strip.
     Written(usize),
 }
@@ -65,13 +67,13 @@ pub fn wrap(out: &mut [u8], identifier: u8, n: usize) -> Built
     ensures { λ r. ⌜ Wraps (now (out .entry)) identifier n r (now (out .exit)) ⌝ }
 {
     if out.len() < AROUND {
-        return Built::Refused(2);
+        return Built::Refused(plain(2));
     }
     if out.len() - AROUND < n {
-        return Built::Refused(2);
+        return Built::Refused(plain(2));
     }
     if DATA < n {
-        return Built::Refused(4);
+        return Built::Refused(plain(4));
     }
     out[0] = identifier;
     out[1] = (n / 256 % 256) as u8;
@@ -87,13 +89,13 @@ fn send(out: &mut [u8], identifier: u8, bytes: &[u8], known: bool) -> Built
 {
     let n = bytes.len();
     if out.len() < n + AROUND {
-        return Built::Refused(2);
+        return Built::Refused(plain(2));
     }
     if DATA < n {
-        return Built::Refused(4);
+        return Built::Refused(plain(4));
     }
     if !known {
-        return Built::Refused(6);
+        return Built::Refused(plain(6));
     }
     lay(&mut out[HEAD..], bytes);
     wrap(out, identifier, n)

@@ -3,6 +3,7 @@ use Prim.Native.Nat.{ℕ}
 use mathlib.Core.Bool.{true}
 use mathlib.Core.List.{List}
 use mathlib.Core.Path.{_≡_}
+use Rattle.frame.specs.Ground.{plain}
 use Rattle.frame.specs.Numbers.{FirstGiven, in-order}
 use Rattle.library.specs.Store.{Keeps, keep-tests}
 
@@ -14,4 +15,4 @@ abbrev pub KeepGivesFirst : Type 0
 KeepGivesFirst =
     (s : List ℕ) (n : ℕ) (body : List ℕ) (r : ℕ) (s′ : List ℕ) →
     Keeps s n body r s′ →
-    FirstGiven (keep-tests n body s) r
+    FirstGiven (keep-tests n body s) (plain r)

@@ -1,4 +1,5 @@
--- The proofs of `line`: the laws of a line that is written, document 01's lines computed over the rule, and that the contract has one outcome.
+-- The proofs of `line`: the laws of a line that is written, that numbers read back, the documents' lines computed over the rule, and that the contract has one outcome.
 pub mod Laws
+pub mod LineLaws
 pub mod Samples
 pub mod Unique

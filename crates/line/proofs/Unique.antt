@@ -2,4 +2,4 @@
 use Rattle.line.specs.Unique.{WritesUnique}
 
 pub writes-unique : WritesUnique
-writes-unique before number answer r r′ after after′ p q = ((cc), (cc))
+writes-unique before g answer r r′ after after′ p q = ((cc), (cc))

@@ -9,7 +9,8 @@ use native.Mathlib.Omega.{arith}
 use borrow.Author.Tests.{le-leb, leb-true, eqb-true, eq-eqb}
 use lib.Dec.{eqb, leb}
 use lib.ListN.{take, drop}
-use Rattle.frame.specs.Ground.{Test, Refusal, both, unless, checked, all}
+use Rattle.frame.specs.Ground.{Test, both, unless, checked, all}
+use Rattle.frame.specs.declared.given.Given.{Given}
 use Rattle.frame.specs.Wire.{size-of, fits}
 use Rattle.frame.specs.Receive.{received}
 use Rattle.frame.specs.declared.wire.Size.{Size}
@@ -38,7 +39,7 @@ then-test true more x y n g = g
 then-test false more x y n g = failed x n
 
 tests-come : (p : Printer) (o : Order) (c : ℕ) (ts : List Test) → numbered ts ≡ true
-    → Comes (done o c) (all ts) (checked ts (λ (r : Refusal). refusal p (r .number) c) (done o c))
+    → Comes (done o c) (all ts) (checked ts (λ (r : Given). refusal p r c) (done o c))
 tests-come p o c [] n = passed refl
 tests-come p o c (t ∷ ts) n =
     let h = both-true (leb 8 (t .otherwise .number)) (numbered ts) n in
@@ -124,7 +125,7 @@ obeyed-effect : (p : Printer) (o : Order) (c : ℕ) {x : List ℕ} {y : List (Li
     → o .frame ≡ x → o .strips ≡ y → o .after ≡ q → o .store ≡ z → Effect (obeyed p o c) c x y q z
 obeyed-effect p o c n t a b e f =
     rw (then-just (obeyed-comes p o c n) t)
-    (record { acknowledged = refl; takes = refl; answers = ap (λ (l : List ℕ). 0x06 ∷ l) a; prints = b; becomes = e; stores = f })
+    (record { acknowledged = refl; nowhere = refl; takes = refl; answers = ap (λ (l : List ℕ). 0x06 ∷ l) a; prints = b; becomes = e; stores = f })
 
 handled-effect : (p : Printer) (store s : List ℕ) (r : Received) → Sound s r → passes p store s r ≡ true → HasEffect p store s r (handled p store s r)
 handled-effect p store s Partial h e = never e

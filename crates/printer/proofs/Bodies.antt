@@ -8,11 +8,12 @@ use borrow.Author.Tests.{eqb-true}
 use lib.Dec.{eqb}
 use lib.ListN.{length, length-drop, drop-of-length-le}
 use lib.Seq.{length-take-le}
-use Rattle.frame.specs.Ground.{pick, both, has}
-use Rattle.frame.proofs.Ground.{never, both-true, true-both}
+use Rattle.frame.specs.Ground.{pick, plain, both, has}
+use Rattle.frame.specs.declared.given.Given.{Given}
+use Rattle.frame.proofs.Ground.{never, both-true, plain-given, true-both}
 use Rattle.content.specs.Content.{is-content, verdict}
 use Rattle.library.specs.Record.{Record, records}
-use Rattle.library.specs.Store.{Keeps, body-of, fit-behind, has-room, held, is-number, is-store, kept, store-size, stored, without}
+use Rattle.library.specs.Store.{Keeps, body-of, fit-behind, has-room, held, is-number, is-store, kept, store-size, stored, without, keep-tests}
 use Rattle.library.proofs.Stores.{none-held}
 use Rattle.library.proofs.StoreLaws.{store-tells, storing-stores}
 use Rattle.printer.specs.Jet.{good-parameters}
@@ -129,11 +130,11 @@ stored-valid store n body v k b room =
     true-both _ _ (x .formed) (rw (x .order) (good-kept n body (records store) (a .bodies) b))
 
 -- What `keep` leaves where the tests before it hold.
-pub kept-changes : (store d : List ℕ) {r : ℕ} {store′ : List ℕ} → valid-store store ≡ true → is-number (stored-number d) ≡ true
+pub kept-changes : (store d : List ℕ) {r : ℕ} {g : Given} {store′ : List ℕ} → g ≡ plain r → valid-store store ≡ true → is-number (stored-number d) ≡ true
     → good-parameters (body-parameters (stored-body d)) ≡ true → is-content (body-content (stored-body d)) ≡ true
     → Keeps store (stored-number d) (stored-body d) r store′
-    → ChangesStore (store-tests store d) (storing (stored-number d) (stored-body d)) store r store′
+    → ChangesStore (store-tests store d) (storing (stored-number d) (stored-body d)) store g store′
 unfolding is-store
-kept-changes store d v a b c k =
+kept-changes store d p v a b c k =
     let size = both-true (eqb (length store) store-size) _ (store-valid store v .formed) .0 in
-    record { number = k .number ∙ rw (size, a, b, c) refl; bytes = k .store ∙ rw (size, a, b, c) refl }
+    record { gives = p ∙ ap plain (k .number) ∙ plain-given (keep-tests (stored-number d) (stored-body d) store) refl ∙ rw (size, a, b, c) refl; bytes = k .store ∙ rw (size, a, b, c) refl }

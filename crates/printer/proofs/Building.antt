@@ -4,7 +4,8 @@ use mathlib.Core.Bool.{Bool, true, false}
 use mathlib.Core.List.{List, [], _∷_, _++_}
 use mathlib.Core.Path.{_≡_, refl, _∙_, ap}
 use lib.ListN.{length, take, drop}
-use Rattle.frame.specs.Ground.{Test, Refusal, pick, both, has, checked}
+use Rattle.frame.specs.Ground.{Test, pick, plain, both, has, checked}
+use Rattle.frame.specs.declared.given.Given.{Given}
 use Rattle.frame.specs.Wire.{size-of, fits}
 use Rattle.frame.specs.Receive.{received}
 use Rattle.frame.specs.Laws.{ReadsBack, heard, heard-in}
@@ -41,7 +42,7 @@ record Ends (c : ℕ) (o : Outcome) : Type 0 where
   takes : o .consumed ≡ c
   numbers : (o .number ≡ 0 → ⊥) → has (o .number) following ≡ true
 
-tests-end : (p : Printer) (o : Order) (c : ℕ) (ts : List Test) → late ts ≡ true → Ends c (checked ts (λ (r : Refusal). refusal p (r .number) c) (done o c))
+tests-end : (p : Printer) (o : Order) (c : ℕ) (ts : List Test) → late ts ≡ true → Ends c (checked ts (λ (r : Given). refusal p r c) (done o c))
 tests-end p o c [] e = record { takes = refl; numbers = λ z. absurd (z refl) }
 tests-end p o c (t ∷ ts) e =
     let h = both-true (has (t .otherwise .number) following) (late ts) e in
@@ -59,13 +60,13 @@ data-heard identifier x d e = cc
 handled-back : (p : Printer) (store s : List ℕ) (identifier : ℕ) (d : List ℕ) (t : Bool)
     → received s ≡ pick t (Frame identifier (length d) (length d + 4)) (Misfit 7 identifier (length d) (length d + 4))
     → heard-in s (received s) ≡ heard identifier d
-    → handled p store s (received s) ≡ pick t (obeyed p (order p store identifier d) (length d + 4)) (refusal p 7 (length d + 4))
+    → handled p store s (received s) ≡ pick t (obeyed p (order p store identifier d) (length d + 4)) (refusal p (plain 7) (length d + 4))
 handled-back p store s identifier d true e h =
     let same : take (length d) (drop 3 s) ≡ d = data-heard identifier (take (length d) (drop 3 s)) d (rw e at h) in
     rw e (ap (λ (l : List ℕ). obeyed p (order p store identifier l) (length d + 4)) same)
 handled-back p store s identifier d false e h = rw e refl
 
-either : (p : Printer) (store : List ℕ) (identifier : ℕ) (d : List ℕ) (t : Bool) → Ends (length d + 4) (pick t (obeyed p (order p store identifier d) (length d + 4)) (refusal p 7 (length d + 4)))
+either : (p : Printer) (store : List ℕ) (identifier : ℕ) (d : List ℕ) (t : Bool) → Ends (length d + 4) (pick t (obeyed p (order p store identifier d) (length d + 4)) (refusal p (plain 7) (length d + 4)))
 either p store identifier d true = obeyed-ends p store identifier d (length d + 4)
 either p store identifier d false = record { takes = refl; numbers = λ _. refl }
 
@@ -74,7 +75,7 @@ built-read-as-built m store before identifier d n after rest v w b =
     let p : Printer = printer-of m in
     let s : List ℕ = take n after ++ rest in
     let r : ReadsBack s identifier d = built-read-back before identifier d n after rest b in
-    let e : outcome m (full store s) ≡ pick (fits (size-of identifier) (length d)) (obeyed p (order p store identifier d) (length d + 4)) (refusal p 7 (length d + 4)) =
+    let e : outcome m (full store s) ≡ pick (fits (size-of identifier) (length d)) (obeyed p (order p store identifier d) (length d + 4)) (refusal p (plain 7) (length d + 4)) =
     valid-handled m store s v w ∙ handled-back p store s identifier d (fits (size-of identifier) (length d)) (r .answer) (r .hears) in
     let x = either p store identifier d (fits (size-of identifier) (length d)) in
     record { handled = e; takes = ap (λ (o : Outcome). o .consumed) e ∙ x .takes; numbers = rw e (x .numbers) }

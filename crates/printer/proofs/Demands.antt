@@ -4,6 +4,8 @@ pub use Rattle.printer.proofs.Refusing.{bad-state, bad-state-elsewhere,
 -- Demand 2.
 pub use Rattle.printer.proofs.Accepting.{acknowledged-exactly, exact-effect, effect-kept, room-enough}
 pub use Rattle.printer.proofs.Building.{built-read-as-built}
+pub use Rattle.printer.proofs.Editing.{update-numbered}
+pub use Rattle.printer.proofs.Placing.{update-tells-where, frame-tells-where, nowhere-else}
 pub use Rattle.printer.proofs.Storing.{store-stays, stored-last, shown-as-selected}
 -- Demand 3.
 pub use Rattle.printer.proofs.Reaching.{reached-valid, messages-held, nothing-held, printed-as-accepted}

@@ -9,11 +9,12 @@ use borrow.Author.Tests.{ne-eqb, eqb-true, eqb-false, leb-true, leb-false, lt-lt
 use lib.Dec.{eqb, leb, ltb}
 use lib.ListN.{length, getD, take, drop, length-set, length-drop, take-append-drop}
 use lib.Seq.{length-take-le, take-append-seam}
-use Rattle.frame.specs.Ground.{both, all, first-failing, pick, test}
+use Rattle.frame.specs.Ground.{both, all, given, pick, unless}
+use Rattle.frame.specs.declared.given.Given.{Given}
 use Rattle.frame.specs.Receive.{received}
 use Rattle.frame.specs.declared.receive.Received.the-variants.{Update, Frame}
 use Rattle.frame.proofs.Laws as frame-laws
-use Rattle.frame.proofs.Ground.{both-true, within-true}
+use Rattle.frame.proofs.Ground.{both-true, given-number, within-true}
 use Rattle.content.specs.Byte.{all-characters}
 use Rattle.content.specs.Machine.{start}
 use Rattle.content.specs.Content.{verdict}
@@ -21,14 +22,14 @@ use Rattle.content.specs.Position.{field-positions, is-field-position, marks}
 use Rattle.content.specs.Edit.{replaced}
 use Rattle.content.specs.Marks.{tree-letters, tree-marks}
 use Rattle.content.specs.Tree.{tree-of}
-use Rattle.content.specs.Update.{laid, update-tests}
+use Rattle.content.specs.Update.{laid}
 use Rattle.content.specs.declared.position.Mark.{Mark}
 use Rattle.content.specs.declared.test.Verdict.the-variants.{Good}
 use Rattle.content.specs.declared.position.Mark.the-variants.{Structure}
 use Rattle.content.proofs.ChangeLaws.{edit-addresses, edit-elsewhere, edit-keeps-length, marks-of-content, positions-of-content, update-elsewhere, update-keeps-length, update-letters, update-taken-where}
 use Rattle.printer.specs.Jet.{Jet, has-message, message}
 use Rattle.printer.specs.State.{Printer, jet-at, with-jet, printer-of, valid, valid-state}
-use Rattle.printer.specs.Order.{Order, given, jet-number}
+use Rattle.printer.specs.Order.{Order, jet-number}
 use Rattle.printer.specs.Change.{address-in, edited-jet, positions, updated-jet, first-of-head, second-of-head, head-positions, edit-message, update-fields, updated-head}
 use Rattle.printer.specs.Messages.{valid-store}
 use Rattle.printer.specs.Receive.{Outcome, outcome, obeyed, done, printer-order, order}
@@ -37,7 +38,7 @@ use Rattle.printer.specs.Demands.{full, SameButMessage, letters, Edited,
 use Rattle.printer.proofs.PrintLaws.{content-good, none-empty}
 use Rattle.printer.proofs.Valid.{on-row, four-jets, jet-content, valid-at, valid-printer}
 use Rattle.printer.proofs.StateLaws.{jet-at-with-jet, jet-at-other, message-of}
-use Rattle.printer.proofs.OrderLaws.{obeyed-done, obeyed-refused, obeyed-number, obeyed-consumes, given-exactly, fields-numbered, EditTests, edit-tells, characters-before, characters-behind, UpdateTests, update-tells}
+use Rattle.printer.proofs.OrderLaws.{obeyed-done, obeyed-refused, obeyed-given, obeyed-consumes, given-exactly, fields-numbered, EditTests, edit-tells, characters-before, characters-behind, UpdateTests, update-tells}
 
 -- ---- What an accepted order leaves.
 -- All tests of what is accepted hold, and it is done.
@@ -48,8 +49,8 @@ obeyed-accepted p o consumed n z = go (all (o .tests)) refl
     go : (t : Bool) → all (o .tests) ≡ t → (all (o .tests) ≡ true) × (obeyed p o consumed ≡ done o consumed)
     go true e = (e, obeyed-done p o consumed e)
     go false e =
-        let g : 8 ≤ given (o .tests) = given-exactly (o .tests) n .1 e in
-        let q : obeyed p o consumed .number ≡ given (o .tests) = ap (λ (x : Outcome). x .number) (obeyed-refused p o consumed e) in
+        let g : 8 ≤ given (o .tests) .number = given-exactly (o .tests) n .1 e in
+        let q : obeyed p o consumed .number ≡ given (o .tests) .number = ap (λ (x : Outcome). x .number) (obeyed-refused p o consumed e) in
         absurd (omega arith)
 
 -- So what is true of the state behind an order whose tests hold is true of what is left, where what is handed in was obeyed and accepted.
@@ -268,7 +269,7 @@ module _ (p : Printer) (text : List ℕ) (four : length (p .jets) ≡ 4) (v : va
       }
 
 -- What is handed in does what the rule of an update does.
-update-heard : (m store s : List ℕ) (n consumed : ℕ) → valid-state m ≡ true → valid-store store ≡ true → received s ≡ Update n consumed
+pub update-heard : (m store s : List ℕ) (n consumed : ℕ) → valid-state m ≡ true → valid-store store ≡ true → received s ≡ Update n consumed
     → outcome m (full store s) ≡ obeyed (printer-of m) (update-fields (printer-of m) (take n (drop 1 s))) consumed
 unfolding outcome
 update-heard m store s n consumed v w e = rw (v, w, e)
@@ -281,24 +282,24 @@ updates-only-fields m store s n consumed v w e z =
     (λ t. update-updates p text (four-jets m) (valid-printer m v) (update-tells p text t))
 
 -- The tests of an update in the words of its number.
-given-number : (n : ℕ) (text : List ℕ) → first-failing (test (ltb 0 n) 11 ∷ update-tests n text) ≡ update-number n text
-given-number zero text = refl
-given-number (suc n) text = rw (lt-ltb 0 (suc n) (omega arith), ne-eqb (suc n) 0 (λ z. omega arith)) (go (eqb (length text) (suc n)) (all-characters text))
+in-turn : (n : ℕ) (text : List ℕ) → unless (ltb 0 n) 11 (unless (eqb (length text) n) 18 (unless (all-characters text) 13 0)) ≡ update-number n text
+in-turn zero text = refl
+in-turn (suc n) text = rw (lt-ltb 0 (suc n) (omega arith), ne-eqb (suc n) 0 (λ z. omega arith)) (go (eqb (length text) (suc n)) (all-characters text))
   where
-    go : (x y : Bool) → first-failing (test x 18 ∷ test y 13 ∷ []) ≡ pick x (pick y 0 13) 18
+    go : (x y : Bool) → _≡_ {A = ℕ} (unless x 18 (unless y 13 0)) (pick x (pick y 0 13) 18)
     go true true = refl
     go true false = refl
     go false y = refl
 
-given-fields : (p : Printer) (text : List ℕ) → first-failing (update-fields p text .tests) ≡ update-number (head-positions p) text
+given-fields : (p : Printer) (text : List ℕ) → given (update-fields p text .tests) .number ≡ update-number (head-positions p) text
 unfolding update-fields
-given-fields p text = given-number (head-positions p) text
+given-fields p text = given-number (update-fields p text .tests) ∙ in-turn (head-positions p) text
 
 pub update-numbered : UpdateNumbered
 update-numbered m store text rest v w h e =
     let p = printer-of m in
     let n = length text in
     rw (update-heard m store (0x02 ∷ text ++ (0x03 ∷ rest)) n (n + 2) v w (frame-laws.update-heard text rest h e), take-append-seam text (0x03 ∷ rest)) (
-      obeyed-number p (update-fields p text) (n + 2) ∙ given-fields p text ∙ ap (λ (k : ℕ). update-number k text) (same-counts p (valid-printer m v)),
+      ap (λ (g : Given). g .number) (obeyed-given p (update-fields p text) (n + 2)) ∙ given-fields p text ∙ ap (λ (k : ℕ). update-number k text) (same-counts p (valid-printer m v)),
       obeyed-consumes p (update-fields p text) (n + 2),
     )

@@ -8,17 +8,16 @@ use borrow.Author.Tests.{le-leb}
 use borrow.Rule.Slice.PartMut.{midOf, putMid, put-same}
 use lib.ListN.{length, getD, take, drop, set, length-append, length-take, length-drop, take-append-drop, drop-of-length-le}
 use lib.Seq.{length-take-le, drop-drop, take-add, take-at, take-all, take-take, drop-append-le, getD-take, getD-drop}
-use Rattle.frame.specs.Ground.{Test, all, checked, first-failing, over, pick}
+use Rattle.frame.specs.Ground.{Test, all, checked, given, over, pick}
 use Rattle.frame.specs.Wire.{word}
 use Rattle.frame.specs.Build.{Lays}
 use Rattle.frame.proofs.Ground.{checked-all, checked-refuses, length-over, over-over, lent-tail, tail-back, laid-behind}
 use Rattle.content.specs.Machine.{Mode, start, step}
 use Rattle.content.specs.Position.{mark-of, is-field-position, field-positions-from, field-positions}
-use Rattle.content.specs.Edit as edits
-use Rattle.content.specs.Edit.{Edits, edit-tests, edited, replaced, number}
+use Rattle.content.specs.Edit.{Edits, edit-tests, edited, given-by, replaced}
 use Rattle.content.specs.Update.{laid}
 use Rattle.content.specs.declared.edit.Edited.{Edited}
-use Rattle.content.specs.declared.edit.Edited.the-variants.{Done}
+use Rattle.content.specs.declared.edit.Edited.the-variants.{Done, Refused}
 use Rattle.printer.specs.Number.{number-of, in-bytes}
 use Rattle.printer.specs.Counter.{Counter, set-to, counted, counter-size, counter-of, counter-bytes}
 use Rattle.printer.specs.Jet.{message, parameters, general-place, counter-place, jet-size, jet-of, jet-bytes, with-message, with-parameters, counted-jet}
@@ -167,24 +166,24 @@ module _ (b : List ℕ) (full : length b ≡ jet-size) (f : Bytes b) where
 
   module _ {n address : ℕ} {symbols last : List ℕ} {r : Edited} (e : n ≡ jet-of b .length) (h : jet-of b .length ≤ 512)
       (kept : length last ≡ length (midOf 2 (2 + n - 2) b)) (p : Edits (midOf 2 (2 + n - 2) b) address symbols r last) where
-    answers : r ≡ checked (tests address symbols) edits.refused Done
+    answers : r ≡ checked (tests address symbols) Refused Done
     unfolding edited
     answers = p .answer ∙ ap (λ (l : List ℕ). edited l address symbols) (message-lent b e h)
 
     leaves : (t : Bool) → all (tests address symbols) ≡ t → putMid 2 (2 + n - 2) b last ≡ pick t (jet-bytes (edited-jet (jet-of b) address symbols)) b
     leaves true t =
-        let done = answers ∙ checked-all (tests address symbols) edits.refused Done t in
+        let done = answers ∙ checked-all (tests address symbols) Refused Done t in
         let new : last ≡ replaced (message (jet-of b)) address symbols = p .bytes ∙ rw (done, message-lent b e h) in
         message-left last e h kept ∙ ap (λ (l : List ℕ). jet-bytes (with-message (jet-of b) l)) new
     leaves false t =
-        let refused = answers ∙ (checked-refuses (tests address symbols) t) .gives edits.refused Done in
+        let refused = answers ∙ (checked-refuses (tests address symbols) t) .gives Refused Done in
         let same : last ≡ midOf 2 (2 + n - 2) b = p .bytes ∙ rw refused in
         ap (putMid 2 (2 + n - 2) b) same ∙ put-same 2 (2 + n - 2) b
 
-    pub edited-left : {x : Edited} → r ≡ x → BecomesJet (tests address symbols) (edited-jet (jet-of b) address symbols) b (number x) (putMid 2 (2 + n - 2) b last)
+    pub edited-left : {x : Edited} → r ≡ x → BecomesJet (tests address symbols) (edited-jet (jet-of b) address symbols) b (given-by x) (putMid 2 (2 + n - 2) b last)
     edited-left q =
         record {
-          number = ap number (sym q) ∙ p .first ∙ ap (λ (l : List ℕ). first-failing (edit-tests l address symbols)) (message-lent b e h);
+          gives = ap given-by (sym q) ∙ p .first ∙ ap (λ (l : List ℕ). given (edit-tests l address symbols)) (message-lent b e h);
           jet = leaves (all (tests address symbols)) refl;
         }
 

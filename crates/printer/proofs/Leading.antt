@@ -9,7 +9,8 @@ use borrow.Author.Tests.{ne-eqb}
 use lib.Dec.{eqb, leb}
 use lib.ListN.{length, take, drop, length-drop}
 use lib.Seq.{length-take-le}
-use Rattle.frame.specs.Ground.{pick, both, all}
+use Rattle.frame.specs.Ground.{pick, plain, both, all, given}
+use Rattle.frame.specs.declared.given.Given.{Given}
 use Rattle.frame.specs.Receive.{received}
 use Rattle.frame.specs.declared.receive.Received.{Received}
 use Rattle.frame.specs.declared.receive.Received.the-variants.{Partial, Refused, Misfit, Enquiry, Update, Frame}
@@ -17,7 +18,7 @@ use Rattle.frame.proofs.Ground.{both-true, pick-case, unless-tells}
 use Rattle.frame.proofs.Heard.{Sound, sound, frame-inside}
 use Rattle.calendar.specs.Clock.{is-real, tick}
 use Rattle.printer.specs.State.{Printer, with-clock, valid, valid-state, printer-of, bytes-of}
-use Rattle.printer.specs.Order.{Order, given, left}
+use Rattle.printer.specs.Order.{Order, left}
 use Rattle.printer.specs.Change.{update-fields}
 use Rattle.printer.specs.Messages.{valid-store}
 use Rattle.printer.specs.Receive.{Handed, Outcome, outcome, handled, kept, obeyed, refusal, enquire, order, answer-size, strips-size}
@@ -46,8 +47,8 @@ module _ (jet : ℕ) (m : List ℕ) (Q : List ℕ → Brought → Type 0) (same 
   abbrev Gives : Brought → Outcome → Type 0
   Gives b o = Q (kept o m) (pick (eqb (o .number) 0) b nothing)
 
-  refused-gives : (number consumed : ℕ) (b : Brought) → 4 ≤ number → Gives b (refusal (printer-of m) number consumed)
-  refused-gives number consumed b h = rw (ne-eqb number 0 (λ e. omega arith)) same
+  refused-gives : (g : Given) (consumed : ℕ) (b : Brought) → 4 ≤ g .number → Gives b (refusal (printer-of m) g consumed)
+  refused-gives g consumed b h = rw (ne-eqb (g .number) 0 (λ e. omega arith)) same
 
   obeyed-gives : (o : Order) (consumed : ℕ) (b : Brought) → numbered (o .tests) ≡ true → (all (o .tests) ≡ true → Q (bytes-of (o .after)) b)
       → Gives b (obeyed (printer-of m) o consumed)
@@ -56,13 +57,13 @@ module _ (jet : ℕ) (m : List ℕ) (Q : List ℕ → Brought → Type 0) (same 
       go : (t : Bool) → all (o .tests) ≡ t → Gives b (obeyed (printer-of m) o consumed)
       go true e = subst (Gives b) (sym (obeyed-done (printer-of m) o consumed e)) (f e)
       go false e =
-          let g : 8 ≤ given (o .tests) = given-exactly (o .tests) n .1 e in
+          let g : 8 ≤ given (o .tests) .number = given-exactly (o .tests) n .1 e in
           subst (Gives b) (sym (obeyed-refused (printer-of m) o consumed e)) (refused-gives (given (o .tests)) consumed b (omega arith))
 
   handled-gives : (store s : List ℕ) (r : Received) → valid-store store ≡ true → received s ≡ r → Sound s r → Gives (brought-in jet store s r) (handled (printer-of m) store s r)
   handled-gives store s Partial w e h = same
-  handled-gives store s (Refused number consumed) w e h = refused-gives number consumed nothing h
-  handled-gives store s (Misfit number i n consumed) w e h = refused-gives number consumed nothing h
+  handled-gives store s (Refused number consumed) w e h = refused-gives (plain number) consumed nothing h
+  handled-gives store s (Misfit number i n consumed) w e h = refused-gives (plain number) consumed nothing h
   handled-gives store s Enquiry w e h = obeyed-gives (enquire (printer-of m)) 1 nothing refl (λ _. leads _ _ stays)
   handled-gives store s (Update n consumed) w e h =
       let text = take n (drop 1 s) in

@@ -4,25 +4,26 @@ use mathlib.Core.Bool.{Bool, true, false, not}
 use mathlib.Core.List.{List, [], _∷_, _++_, append-nil}
 use mathlib.Core.Path.{_≡_, refl, sym, _∙_, ap}
 use lib.ListN.{take, drop}
-use Rattle.frame.specs.Ground.{Refusal, Test, checked, first-failing, pick, test}
+use Rattle.frame.specs.Ground.{Test, checked, given, pick, plain, test}
+use Rattle.frame.specs.declared.given.Given.{Given}
 use Rattle.frame.specs.Numbers.{in-order}
 use Rattle.frame.specs.NumberLaws.{frame-tests, is-frame, not-whole, receive-tests, too-long}
 use Rattle.frame.specs.Receive.{number, received}
 use Rattle.frame.specs.declared.receive.Received.{Received}
 use Rattle.frame.specs.declared.receive.Received.the-variants.{Partial, Refused, Misfit, Enquiry, Update, Frame}
-use Rattle.frame.proofs.Ground.{checked-all, checked-append, checked-map}
+use Rattle.frame.proofs.Ground.{checked-all, checked-append, checked-map, plain-given}
 use Rattle.frame.proofs.Numbers.{first-given}
-use Rattle.frame.proofs.NumberLaws.{in-order as frame-order, received-first}
+use Rattle.frame.proofs.NumberLaws.{in-order as frame-order, plain-received, received-first}
 use Rattle.printer.specs.Order.{Order}
 use Rattle.printer.specs.Change.{set-message, set-parameters, set-both, edit-message, update-fields}
 use Rattle.printer.specs.Messages.{store-message, select-message}
 use Rattle.printer.specs.Request.{ask-counter, ask-message, ask-table, ask-clock}
 use Rattle.printer.specs.Print.{print}
 use Rattle.printer.specs.Call.{set-clock, tick-clock}
-use Rattle.printer.specs.Receive.{Handed, Outcome, handled, handing-tests, obeyed, order, outcome, silent}
+use Rattle.printer.specs.Receive.{Handed, given-by, handled, handing-tests, obeyed, order, outcome, silent}
 use Rattle.printer.specs.State.{Printer, printer-of}
 use Rattle.printer.specs.NumberLaws.{CallsGiveFirst, InOrder, asked-tests, outcome-tests}
-use Rattle.printer.proofs.OrderLaws.{obeyed-number, printer-order-case, order-case}
+use Rattle.printer.proofs.OrderLaws.{obeyed-given, printer-order-case, order-case}
 
 pub numbers-in-order : InOrder
 unfolding store-message select-message set-message set-parameters set-both edit-message update-fields ask-counter ask-message ask-table ask-clock print set-clock tick-clock
@@ -42,35 +43,36 @@ numbers-in-order =
 
 -- ---- What is handed in.
 -- Behind the receiver's tests nothing is asked, or the tests of an update or a frame, where all of them hold.
-nothing-asked : (s : List ℕ) → first-failing (receive-tests s) ≡ first-failing (receive-tests s ++ [])
-nothing-asked s = ap first-failing (sym (append-nil (receive-tests s)))
+nothing-asked : (s : List ℕ) → given (receive-tests s) ≡ given (receive-tests s ++ [])
+nothing-asked s = ap given (sym (append-nil (receive-tests s)))
 
-then-asked : (s : List ℕ) (ts : List Test) → 0 ≡ first-failing (receive-tests s) → first-failing ts ≡ first-failing (receive-tests s ++ ts)
+then-asked : (s : List ℕ) (ts : List Test) → plain 0 ≡ given (receive-tests s) → given ts ≡ given (receive-tests s ++ ts)
 then-asked s ts e =
-    let held = first-given (receive-tests s) 0 (frame-order .receives s) e .none .0 refl in
-    let give : Refusal → ℕ = λ r. r .number in
-    sym (checked-append (receive-tests s) ts give 0 ∙ checked-all (receive-tests s) give (first-failing ts) held)
+    let held = first-given (receive-tests s) (plain 0) (frame-order .receives s) e .none .0 refl in
+    let same : Given → Given = λ g. g in
+    sym (checked-append (receive-tests s) ts same (plain 0) ∙ checked-all (receive-tests s) same (given ts) held)
 
--- So what the box says of what was received is the receiver's number, or that of the first test of what is asked that fails.
-handled-number : (p : Printer) (store s : List ℕ) (r : Received) → number r ≡ first-failing (receive-tests s)
-    → handled p store s r .number ≡ first-failing (receive-tests s ++ asked-tests p store s r)
+-- So what the box says of what was received is the receiver's number, or what the first test of what is asked that fails gives.
+handled-given : (p : Printer) (store s : List ℕ) (r : Received) → plain (number r) ≡ given (receive-tests s)
+    → given-by (handled p store s r) ≡ given (receive-tests s ++ asked-tests p store s r)
 unfolding obeyed
-handled-number p store s Partial e = e ∙ nothing-asked s
-handled-number p store s (Refused k c) e = e ∙ nothing-asked s
-handled-number p store s (Misfit k i n c) e = e ∙ nothing-asked s
-handled-number p store s Enquiry e = e ∙ nothing-asked s
-handled-number p store s (Update n c) e = obeyed-number p (update-fields p (take n (drop 1 s))) c ∙ then-asked s _ e
-handled-number p store s (Frame i n c) e = obeyed-number p (order p store i (take n (drop 3 s))) c ∙ then-asked s _ e
+handled-given p store s Partial e = e ∙ nothing-asked s
+handled-given p store s (Refused k c) e = e ∙ nothing-asked s
+handled-given p store s (Misfit k i n c) e = e ∙ nothing-asked s
+handled-given p store s Enquiry e = e ∙ nothing-asked s
+handled-given p store s (Update n c) e = obeyed-given p (update-fields p (take n (drop 1 s))) c ∙ then-asked s _ e
+handled-given p store s (Frame i n c) e = obeyed-given p (order p store i (take n (drop 3 s))) c ∙ then-asked s _ e
 
-outcome-number : (m : List ℕ) (h : Handed) → outcome m h .number ≡ first-failing (outcome-tests m h)
+outcome-given : (m : List ℕ) (h : Handed) → given-by (outcome m h) ≡ given (outcome-tests m h)
 unfolding outcome
-outcome-number m h =
+outcome-given m h =
     let p = printer-of m in
     let store = h .store in
     let s = h .bytes in
-    checked-map (λ (o : Outcome). o .number) (handing-tests m h) (λ (r : Refusal). silent p (r .number)) (handled p store s (received s))
-    ∙ ap (checked (handing-tests m h) (λ (r : Refusal). r .number)) (handled-number p store s (received s) (received-first s))
-    ∙ sym (checked-append (handing-tests m h) (receive-tests s ++ asked-tests p store s (received s)) (λ (r : Refusal). r .number) 0)
+    let same : Given → Given = λ g. g in
+    checked-map given-by (handing-tests m h) (λ (g : Given). silent p (g .number)) (handled p store s (received s))
+    ∙ ap (checked (handing-tests m h) same) (handled-given p store s (received s) (ap plain (received-first s) ∙ plain-given (receive-tests s) (plain-received s)))
+    ∙ sym (checked-append (handing-tests m h) (receive-tests s ++ asked-tests p store s (received s)) same (plain 0))
 
 -- All these tests are in order, by computation, whether a frame was received or not and whatever it asks.
 abbrev Ordered : List ℕ → Handed → List Test → Bool → Type 0
@@ -114,9 +116,9 @@ asked-ordered m h (Frame i n c) =
 pub calls-give-first : CallsGiveFirst
 calls-give-first =
     record {
-      receive = λ m h. first-given (outcome-tests m h) (outcome m h .number) (asked-ordered m h (received (h .bytes))) (outcome-number m h);
-      fresh = λ m model clock r m′ p. first-given _ r (numbers-in-order .fresh m model clock) (p .number);
-      clock = λ m clock r m′ p. first-given _ r (numbers-in-order .clock m clock) (p .number);
-      tick = λ m r m′ p. first-given _ r (numbers-in-order .tick m) (p .number);
-      show = λ store current n refused r p. first-given _ refused (numbers-in-order .show store n) (p .number);
+      receive = λ m h. first-given (outcome-tests m h) (given-by (outcome m h)) (asked-ordered m h (received (h .bytes))) (outcome-given m h);
+      fresh = λ m model clock r m′ p. first-given _ (plain r) (numbers-in-order .fresh m model clock) (p .gives);
+      clock = λ m clock r m′ p. first-given _ (plain r) (numbers-in-order .clock m clock) (p .gives);
+      tick = λ m r m′ p. first-given _ (plain r) (numbers-in-order .tick m) (p .gives);
+      show = λ store current n refused r p. first-given _ (plain refused) (numbers-in-order .show store n) (p .gives);
     }

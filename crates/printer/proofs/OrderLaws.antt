@@ -9,25 +9,26 @@ use native.Mathlib.Omega.{arith}
 use borrow.Author.Tests.{eqb-true, leb-true, ltb-false}
 use lib.Dec.{eqb, leb, ltb}
 use lib.ListN.{length, take, drop, length-set}
-use Rattle.frame.specs.Ground.{Test, Refusal, both, checked, first-failing, all}
+use Rattle.frame.specs.Ground.{Test, both, checked, given, plain, all}
+use Rattle.frame.specs.declared.given.Given.{Given}
 use Rattle.frame.proofs.Ground.{never, both-true, true-both, pick-case, checked-all, checked-case, checked-map, checked-refuses, length-each}
 use Rattle.content.specs.Byte.{is-character, all-characters}
 use Rattle.content.specs.Content.{is-content}
 use Rattle.content.specs.Machine.{start}
-use Rattle.content.specs.Edit.{edit-tests, edited, refused, replaced}
+use Rattle.content.specs.Edit.{edit-tests, edited, replaced}
 use Rattle.content.specs.Update.{laid}
-use Rattle.content.specs.declared.edit.Edited.the-variants.{Done}
+use Rattle.content.specs.declared.edit.Edited.the-variants.{Done, Refused}
 use Rattle.content.proofs.ChangeLaws.{edit-stays-content, update-stays-content}
 use Rattle.printer.specs.Counter.{Counter}
 use Rattle.printer.specs.Jet.{Jet, has-jet, has-message, message, valid-jet, good-parameters, counted-jet}
 use Rattle.printer.specs.State.{Printer, jet-at, with-jet, valid}
 use Rattle.library.specs.Store.{has-room, is-number}
-use Rattle.printer.specs.Order.{Order, unchanged, store-after, given, jet-number, jet-in}
+use Rattle.printer.specs.Order.{Order, unchanged, store-after, jet-number, jet-in}
 use Rattle.printer.specs.Change.{parameters-in, address-in, first-of-head, second-of-head, positions, head-positions, updated-jet, updated-head, set-message, set-parameters, set-both, edit-message, update-fields}
 use Rattle.printer.specs.Messages.{body-content, body-parameters, good-body, is-there, select-message, selected-body, selected-number, store-message, stored-body, stored-number, valid-store}
 use Rattle.printer.specs.Request.{ask-counter, ask-message, ask-table, ask-clock}
 use Rattle.printer.specs.Print.{print}
-use Rattle.printer.specs.Receive.{Outcome, obeyed, refusal, done, printer-order, order}
+use Rattle.printer.specs.Receive.{Outcome, given-by, obeyed, refusal, done, printer-order, order}
 use Rattle.printer.specs.OrderLaws.{ObeyedDone, ObeyedRefused, numbered, OrdersNumbered, GivenExactly, Keeps, OrderKeeps, UpdateKeeps, OrderStores, UpdateStores}
 use Rattle.printer.proofs.Valid.{valid-at, absent-empty, jet-content, on-row}
 use Rattle.printer.proofs.StateLaws.{put-valid, with-jet-valid, message-stays, parameters-stay}
@@ -35,12 +36,12 @@ use Rattle.printer.proofs.PrintLaws.{counted-valid}
 use Rattle.printer.proofs.Bodies.{GoodBody, found-good, stored-valid}
 
 -- ---- Tests in a row.
--- Where one fails, the number that is given decides, whatever is made of it.
-pub checked-given : {A : Type 0} (tests : List Test) (refuse : ℕ → A) (accept : A) → all tests ≡ false
-    → checked tests (λ (r : Refusal). refuse (r .number)) accept ≡ refuse (given tests)
+-- Where one fails, what is given decides, whatever is made of it.
+pub checked-given : {A : Type 0} (tests : List Test) (refuse : Given → A) (accept : A) → all tests ≡ false
+    → checked tests refuse accept ≡ refuse (given tests)
 checked-given tests refuse accept e =
     let r = checked-refuses tests e in
-    r .gives (λ (r : Refusal). refuse (r .number)) accept ∙ ap refuse (sym (r .gives (λ (r : Refusal). r .number) 0))
+    r .gives refuse accept ∙ ap refuse (sym (r .gives (λ (g : Given). g) (plain 0)))
 
 pub obeyed-done : ObeyedDone
 unfolding obeyed
@@ -48,31 +49,31 @@ obeyed-done p o consumed e = checked-all (o .tests) _ _ e
 
 pub obeyed-refused : ObeyedRefused
 unfolding obeyed
-obeyed-refused p o consumed e = checked-given (o .tests) (λ (number : ℕ). refusal p number consumed) _ e
+obeyed-refused p o consumed e = checked-given (o .tests) (λ (g : Given). refusal p g consumed) _ e
 
--- Whatever comes of it, the number is that of the first test that fails, or 0, and what it says is consumed.
-pub obeyed-number : (p : Printer) (o : Order) (consumed : ℕ) → obeyed p o consumed .number ≡ first-failing (o .tests)
+-- Whatever comes of it, number and place are those of the first test that fails, or 0, and what it says is consumed.
+pub obeyed-given : (p : Printer) (o : Order) (consumed : ℕ) → given-by (obeyed p o consumed) ≡ given (o .tests)
 unfolding obeyed
-obeyed-number p o consumed = checked-map (λ (x : Outcome). x .number) (o .tests) (λ (r : Refusal). refusal p (r .number) consumed) (done o consumed)
+obeyed-given p o consumed = checked-map given-by (o .tests) (λ (g : Given). refusal p g consumed) (done o consumed)
 
 pub obeyed-consumes : (p : Printer) (o : Order) (consumed : ℕ) → obeyed p o consumed .consumed ≡ consumed
 unfolding obeyed
 obeyed-consumes p o consumed =
-    checked-case (λ (x : Outcome). x .consumed ≡ consumed) (o .tests) (λ (r : Refusal). refusal p (r .number) consumed) (done o consumed) (λ t h. refl) (λ h. refl)
+    checked-case (λ (x : Outcome). x .consumed ≡ consumed) (o .tests) (λ (g : Given). refusal p g consumed) (done o consumed) (λ t h. refl) (λ h. refl)
 
-given-number : (tests : List Test) → numbered tests ≡ true → all tests ≡ false → 8 ≤ given tests
+given-number : (tests : List Test) → numbered tests ≡ true → all tests ≡ false → 8 ≤ given tests .number
 given-number [] n e = never (cc)
 given-number (t ∷ tests) n e =
     let b = both-true (leb 8 (t .otherwise .number)) (numbered tests) n in
     go (t .holds) refl e (leb-true 8 (t .otherwise .number) (b .0)) (given-number tests (b .1))
   where
-    go : (b : Bool) → t .holds ≡ b → both b (all tests) ≡ false → 8 ≤ t .otherwise .number → (all tests ≡ false → 8 ≤ given tests)
-        → 8 ≤ given (t ∷ tests)
+    go : (b : Bool) → t .holds ≡ b → both b (all tests) ≡ false → 8 ≤ t .otherwise .number → (all tests ≡ false → 8 ≤ given tests .number)
+        → 8 ≤ given (t ∷ tests) .number
     go true h e here again = rw h (again e)
     go false h e here again = rw h here
 
 pub given-exactly : GivenExactly
-given-exactly tests n = ((λ e. checked-all tests _ _ e), given-number tests n)
+given-exactly tests n = ((λ e. ap (λ (g : Given). g .number) (checked-all tests (λ g. g) (plain 0) e)), given-number tests n)
 
 -- ---- The orders: nine of the printer alone, and two that need the store.
 -- What holds of each of them holds of the one that an identifier leads to.
@@ -172,7 +173,7 @@ unfolding edit-message edited
 edit-tells p d t =
     let a = both-true (has-jet (p .model) (jet-number d)) _ t in
     let b = both-true (has-message (jet-in p d)) _ (a .1) in
-    record { there = a .0; some = b .0; edits = checked-all (edit-tests (message (jet-in p d)) (address-in d) (drop 3 d)) refused Done (b .1) }
+    record { there = a .0; some = b .0; edits = checked-all (edit-tests (message (jet-in p d)) (address-in d) (drop 3 d)) Refused Done (b .1) }
 
 pub record SelectTests (p : Printer) (store d : List ℕ) : Type 0 where
   pub there : has-jet (p .model) (jet-number d) ≡ true

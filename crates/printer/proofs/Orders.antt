@@ -7,7 +7,8 @@ use native.Mathlib.Omega.{arith}
 use borrow.Author.Tests.{not-true, not-false}
 use lib.ListN.{length, take, drop, length-append}
 use lib.Seq.{take-at, drop-at}
-use Rattle.frame.specs.Ground.{Refusal, Test, test, checked, all, over}
+use Rattle.frame.specs.Ground.{Test, plain, checked, given, all, over}
+use Rattle.frame.specs.declared.given.Given.{Given}
 use Rattle.frame.specs.Wire.{head-size}
 use Rattle.frame.specs.Build as build
 use Rattle.frame.specs.Build.{frame, Answers, Wraps}
@@ -16,7 +17,7 @@ use Rattle.frame.proofs.Ground.{checked-all, length-over, over-under}
 use Rattle.frame.proofs.Told.{frame-length, answered-fits, wrap-fits}
 use Rattle.printer.specs.Jet.{Jet, jet-bytes}
 use Rattle.printer.specs.State.{bytes-of}
-use Rattle.printer.specs.Order.{Order, StoreChange, given, Obeys}
+use Rattle.printer.specs.Order.{Order, StoreChange, Obeys}
 use Rattle.printer.specs.Change.{BecomesJet}
 use Rattle.printer.specs.Messages.{ChangesStore}
 use Rattle.printer.specs.Answer.{Tells, Untold}
@@ -30,71 +31,71 @@ pub granted : {r b : Bool} → r ≡ b → not r ≡ false → b ≡ true
 granted {r} e t = sym e ∙ not-false r t
 
 -- ---- Tests in a row: one fails and those before it hold, or all hold.
-pub data Fails : List Test → ℕ → Type 0 where
-  here : {b : Bool} {n : ℕ} {ts : List Test} → b ≡ false → Fails (test b n ∷ ts) n
-  past : {b : Bool} {n k : ℕ} {ts : List Test} → b ≡ true → Fails ts k → Fails (test b n ∷ ts) k
+pub data Fails : List Test → Given → Type 0 where
+  here : {b : Bool} {g : Given} {ts : List Test} → b ≡ false → Fails (record { holds = b; otherwise = g } ∷ ts) g
+  past : {b : Bool} {g k : Given} {ts : List Test} → b ≡ true → Fails ts k → Fails (record { holds = b; otherwise = g } ∷ ts) k
 
 pub data Passes : List Test → Type 0 where
   end : Passes []
-  holds : {b : Bool} {n : ℕ} {ts : List Test} → b ≡ true → Passes ts → Passes (test b n ∷ ts)
+  holds : {b : Bool} {g : Given} {ts : List Test} → b ≡ true → Passes ts → Passes (record { holds = b; otherwise = g } ∷ ts)
 
-fails-number : {ts : List Test} {n : ℕ} → Fails ts n → n ≡ given ts
-fails-number (here e) = rw e
-fails-number (past e f) = rw e (fails-number f)
+fails-given : {ts : List Test} {g : Given} → Fails ts g → g ≡ given ts
+fails-given (here e) = rw e
+fails-given (past e f) = rw e (fails-given f)
 
-fails-all : {ts : List Test} {n : ℕ} → Fails ts n → all ts ≡ false
+fails-all : {ts : List Test} {g : Given} → Fails ts g → all ts ≡ false
 fails-all (here e) = rw e
 fails-all (past e f) = rw e (fails-all f)
 
-passes-number : {ts : List Test} → Passes ts → 0 ≡ given ts
-passes-number end = refl
-passes-number (holds e f) = rw e (passes-number f)
+passes-given : {ts : List Test} → Passes ts → plain 0 ≡ given ts
+passes-given end = refl
+passes-given (holds e f) = rw e (passes-given f)
 
 passes-all : {ts : List Test} → Passes ts → all ts ≡ true
 passes-all end = refl
 passes-all (holds e f) = rw e (passes-all f)
 
--- What is made of the number, and of what is accepted.
-pub fails-checked : {A : Type 0} {ts : List Test} {n : ℕ} (refuse : ℕ → A) (accept : A) → Fails ts n → checked ts (λ (r : Refusal). refuse (r .number)) accept ≡ refuse n
+-- What is made of what is given, and of what is accepted.
+pub fails-checked : {A : Type 0} {ts : List Test} {g : Given} (refuse : Given → A) (accept : A) → Fails ts g → checked ts refuse accept ≡ refuse g
 fails-checked refuse accept (here e) = rw e
 fails-checked refuse accept (past e f) = rw e (fails-checked refuse accept f)
 
-pub passes-checked : {A : Type 0} {ts : List Test} (refuse : Refusal → A) (accept : A) → Passes ts → checked ts refuse accept ≡ accept
+pub passes-checked : {A : Type 0} {ts : List Test} (refuse : Given → A) (accept : A) → Passes ts → checked ts refuse accept ≡ accept
 passes-checked {ts = ts} refuse accept f = checked-all ts refuse accept (passes-all f)
 
 -- ---- An order on the state: refused it gives the number and leaves the bytes, obeyed it gives 0 and leaves those of the state behind it.
-pub refused : {o : Order} {m : List ℕ} {n : ℕ} → Fails (o .tests) n → Obeys o m n m
-refused f = record { number = fails-number f; state = rw (fails-all f) }
+pub refused : {o : Order} {m : List ℕ} {r g : Given} → r ≡ g → Fails (o .tests) g → Obeys o m r m
+refused e f = record { gives = e ∙ fails-given f; state = rw (fails-all f) }
 
-pub obeyed : {o : Order} {m : List ℕ} {m′ : List ℕ} → Passes (o .tests) → m′ ≡ bytes-of (o .after) → Obeys o m 0 m′
-obeyed f e = record { number = passes-number f; state = rw (passes-all f) e }
+pub obeyed : {o : Order} {m : List ℕ} {r : Given} {m′ : List ℕ} → r ≡ plain 0 → Passes (o .tests) → m′ ≡ bytes-of (o .after) → Obeys o m r m′
+obeyed z f e = record { gives = z ∙ passes-given f; state = rw (passes-all f) e }
 
 -- The same of a jet's bytes.
-pub jet-refused : {ts : List Test} {j : Jet} {b : List ℕ} {n : ℕ} → Fails ts n → BecomesJet ts j b n b
-jet-refused f = record { number = fails-number f; jet = rw (fails-all f) }
+pub jet-refused : {ts : List Test} {j : Jet} {b : List ℕ} {r g : Given} → r ≡ g → Fails ts g → BecomesJet ts j b r b
+jet-refused e f = record { gives = e ∙ fails-given f; jet = rw (fails-all f) }
 
-pub jet-becomes : {ts : List Test} {j : Jet} {b b′ : List ℕ} → Passes ts → b′ ≡ jet-bytes j → BecomesJet ts j b 0 b′
-jet-becomes f e = record { number = passes-number f; jet = rw (passes-all f) e }
+pub jet-becomes : {ts : List Test} {j : Jet} {b b′ : List ℕ} {r : Given} → r ≡ plain 0 → Passes ts → b′ ≡ jet-bytes j → BecomesJet ts j b r b′
+jet-becomes z f e = record { gives = z ∙ passes-given f; jet = rw (passes-all f) e }
 
 -- And of the store's.
-pub store-refused : {ts : List Test} {c : StoreChange} {store : List ℕ} {n : ℕ} → Fails ts n → ChangesStore ts c store n store
-store-refused f = record { number = fails-number f; bytes = rw (fails-all f) }
+pub store-refused : {ts : List Test} {c : StoreChange} {store : List ℕ} {r g : Given} → r ≡ g → Fails ts g → ChangesStore ts c store r store
+store-refused e f = record { gives = e ∙ fails-given f; bytes = rw (fails-all f) }
 
-pub jet-behind : {t : Bool} {n : ℕ} {ts : List Test} {j : Jet} {b b′ : List ℕ} {r : ℕ} → t ≡ true → BecomesJet ts j b r b′ → BecomesJet (test t n ∷ ts) j b r b′
-jet-behind h e = record { number = rw h (e .number); jet = rw h (e .jet) }
+pub jet-behind : {t : Bool} {g : Given} {ts : List Test} {j : Jet} {b b′ : List ℕ} {r : Given} → t ≡ true → BecomesJet ts j b r b′ → BecomesJet (record { holds = t; otherwise = g } ∷ ts) j b r b′
+jet-behind h e = record { gives = rw h (e .gives); jet = rw h (e .jet) }
 
 -- ---- A frame that is told: refused there is a number and nothing is written, else the frame stands at the buffer's front.
-pub untold : {ts : List Test} {frame before : List ℕ} {n : ℕ} {r : Told} → Untold n r → Fails ts n → Tells ts frame before r before
-untold u f = rw (u .told) (record { number = fails-number f; size = rw (fails-all f); bytes = rw (fails-all f) })
+pub untold : {ts : List Test} {frame before : List ℕ} {n : ℕ} {r : Told} → Untold n r → Fails ts (plain n) → Tells ts frame before r before
+untold u f = rw (u .told) (record { gives = fails-given f; size = rw (fails-all f); bytes = rw (fails-all f) })
 
-pub told-behind : {t : Bool} {n : ℕ} {ts : List Test} {frame before after : List ℕ} {r : Told} → t ≡ true → Tells ts frame before r after → Tells (test t n ∷ ts) frame before r after
-told-behind h e = record { number = rw h (e .number); size = rw h (e .size); bytes = rw h (e .bytes) }
+pub told-behind : {t : Bool} {g : Given} {ts : List Test} {frame before after : List ℕ} {r : Told} → t ≡ true → Tells ts frame before r after → Tells (record { holds = t; otherwise = g } ∷ ts) frame before r after
+told-behind h e = record { gives = rw h (e .gives); size = rw h (e .size); bytes = rw h (e .bytes) }
 
 pub told-frame : {ts : List Test} (identifier : ℕ) (d : List ℕ) {told before after : List ℕ} {size : ℕ} → Passes ts → told ≡ frame identifier d → size ≡ length d + 4
     → after ≡ over (frame identifier d) before → Tells ts told before (record { number = 0; size = size }) after
 told-frame identifier d f e s w =
     record {
-      number = passes-number f;
+      gives = passes-given f;
       size = s ∙ rw (passes-all f, e) (sym (frame-length identifier d));
       bytes = rw (passes-all f, e) w;
     }

@@ -8,7 +8,8 @@ use borrow.Author.Tests.{ne-eqb}
 use lib.Dec.{leb}
 use lib.ListN.{length, getD, take, drop, length-append, length-take}
 use lib.Seq.{take-at, drop-append-add}
-use Rattle.frame.specs.Ground.{checked, joined, Refusal, Test}
+use Rattle.frame.specs.Ground.{checked, joined, Test}
+use Rattle.frame.specs.declared.given.Given.{Given}
 use Rattle.frame.specs.Build.{frame}
 use Rattle.frame.specs.Receive.{received, consumed}
 use Rattle.frame.specs.declared.receive.Received.{Received}
@@ -129,7 +130,7 @@ order-short m store i d v =
 abbrev Fits : Outcome → Type 0
 Fits o = length (o .answer) ≤ answer-size
 
-tests-fit : (p : Printer) (o : Order) (c : ℕ) (ts : List Test) → Short o → Fits (checked ts (λ (r : Refusal). refusal p (r .number) c) (done o c))
+tests-fit : (p : Printer) (o : Order) (c : ℕ) (ts : List Test) → Short o → Fits (checked ts (λ (r : Given). refusal p r c) (done o c))
 tests-fit p o c [] h = omega arith
 tests-fit p o c (t ∷ ts) h = unless-case Fits (t .holds) _ _ (omega arith) (tests-fit p o c ts h)
 

@@ -8,7 +8,8 @@ use native.Mathlib.Omega.{arith}
 use borrow.Author.Tests.{leb-true}
 use lib.Dec.{leb}
 use lib.ListN.{take, drop}
-use Rattle.frame.specs.Ground.{Refusal, Test, checked}
+use Rattle.frame.specs.Ground.{Test, checked, plain}
+use Rattle.frame.specs.declared.given.Given.{Given}
 use Rattle.frame.specs.Receive.{received, consumed}
 use Rattle.frame.specs.declared.receive.Received.{Received}
 use Rattle.frame.specs.declared.receive.Received.the-variants.{Partial, Refused, Misfit, Enquiry, Update, Frame}
@@ -25,16 +26,16 @@ use Rattle.printer.proofs.OrderLaws.{fields-numbered, orders-numbered}
 -- The three kinds of outcome in a state, with what they consume.
 pub data Kind (p : Printer) (c : ℕ) : Outcome → Type 0 where
   silence : (n : ℕ) → 1 ≤ n → n < 4 → Kind p c (silent p n)
-  refused : (n : ℕ) → 4 ≤ n → Kind p c (refusal p n c)
+  refused : (g : Given) → 4 ≤ g .number → Kind p c (refusal p g c)
   accepted : (o : Order) → Kind p c (done o c)
 
 -- ---- The kind of every outcome.
 tests-kind : (p : Printer) (o : Order) (c : ℕ) (ts : List Test) → numbered ts ≡ true
-    → Kind p c (checked ts (λ (r : Refusal). refusal p (r .number) c) (done o c))
+    → Kind p c (checked ts (λ (r : Given). refusal p r c) (done o c))
 tests-kind p o c [] e = accepted o
 tests-kind p o c (t ∷ ts) e =
     let h = both-true (leb 8 (t .otherwise .number)) (numbered ts) e in
-    unless-case (Kind p c) (t .holds) _ _ (refused (t .otherwise .number) (omega (arith, leb-true 8 (t .otherwise .number) (h .0)))) (tests-kind p o c ts (h .1))
+    unless-case (Kind p c) (t .holds) _ _ (refused (t .otherwise) (omega (arith, leb-true 8 (t .otherwise .number) (h .0)))) (tests-kind p o c ts (h .1))
 
 obeyed-kind : (p : Printer) (o : Order) (c : ℕ) → numbered (o .tests) ≡ true → Kind p c (obeyed p o c)
 unfolding obeyed
@@ -42,8 +43,8 @@ obeyed-kind p o c e = tests-kind p o c (o .tests) e
 
 handled-kind : (p : Printer) (store s : List ℕ) (r : Received) → Sound s r → Kind p (consumed r) (handled p store s r)
 handled-kind p store s Partial h = silence 3 (omega arith) (omega arith)
-handled-kind p store s (Refused k c) h = refused k h
-handled-kind p store s (Misfit k i n c) h = refused k h
+handled-kind p store s (Refused k c) h = refused (plain k) h
+handled-kind p store s (Misfit k i n c) h = refused (plain k) h
 handled-kind p store s Enquiry h = obeyed-kind p (enquire p) 1 refl
 handled-kind p store s (Update n c) h = obeyed-kind p (update-fields p (take n (drop 1 s))) c (fields-numbered p (take n (drop 1 s)))
 handled-kind p store s (Frame i n c) h = obeyed-kind p (order p store i (take n (drop 3 s))) c (orders-numbered p store i (take n (drop 3 s)))

@@ -9,6 +9,7 @@ use lib.ListN.{length}
 use Rattle.frame.specs.Ground.{Test, all, pick, test}
 use Rattle.printer.specs.Jet.{Jet, jet-size, jet-of, jet-bytes}
 use Rattle.printer.specs.State.{Printer, state-size, jet-at, with-jet, jet-place, printer-of, bytes-of, valid-state}
+use Rattle.frame.specs.declared.given.Given.{Given}
 use Rattle.printer.specs.Order.{Order, change, jet-number, on-printer, with-jet-in, Places, Obeys}
 use Rattle.printer.specs.Change.{BecomesJet}
 use Rattle.printer.proofs.Valid.{valid-printer, valid-at, jet-short, on-row}
@@ -69,7 +70,7 @@ stands {m} {d} e n full known =
     record { full = full; known = known; place = e .place ∙ rw on; least = row .0; most = row .1 }
 
 -- What becomes of that jet's part is what an order on it makes of the state, once the jet is on the printer.
-module _ (m d : List ℕ) {at r : ℕ} {ts : List Test} {j : Jet} {last : List ℕ} (s : Stands m (jet-number d) at) (on : on-printer (printer-of m) d ≡ true)
+module _ (m d : List ℕ) {at : ℕ} {r : Given} {ts : List Test} {j : Jet} {last : List ℕ} (s : Stands m (jet-number d) at) (on : on-printer (printer-of m) d ≡ true)
     (e : BecomesJet ts j (midOf at (at + jet-size - at) m) r last) where
   abbrev part-order : Order
   part-order = change (test (on-printer (printer-of m) d) 8 ∷ ts) (with-jet-in (printer-of m) d j)
@@ -78,5 +79,5 @@ module _ (m d : List ℕ) {at r : ℕ} {ts : List Test} {j : Jet} {last : List �
   part-obeys = go (all ts) refl
     where
       go : (t : Bool) → all ts ≡ t → Obeys part-order m r (putMid at (at + jet-size - at) m last)
-      go true t = record { number = rw on (e .number); state = rw (on, t) (part-written s (λ _. j) (e .jet ∙ rw t)) }
-      go false t = record { number = rw on (e .number); state = rw (on, t) (part-kept s (e .jet ∙ rw t)) }
+      go true t = record { gives = rw on (e .gives); state = rw (on, t) (part-written s (λ _. j) (e .jet ∙ rw t)) }
+      go false t = record { gives = rw on (e .gives); state = rw (on, t) (part-kept s (e .jet ∙ rw t)) }

@@ -5,7 +5,7 @@ use mathlib.Core.Bool.{Bool, true, false}
 use mathlib.Core.List.{List, [], _∷_, map, map-map}
 use mathlib.Core.Path.{_≡_, refl, sym, subst, ap, _∙_}
 use lib.ListN.{length}
-use Rattle.frame.specs.Ground.{Refusal}
+use Rattle.frame.specs.declared.given.Given.{Given}
 use Rattle.frame.proofs.Ground.{checked-all}
 use Rattle.frame.proofs.Heard.{sound}
 use Rattle.content.specs.Content.{is-content}
@@ -53,7 +53,7 @@ all-reached m (c ∷ calls) r = all-reached (after m c) calls (call-reached r c)
 
 -- A fresh printer that is not refused is empty and of the type asked for.
 fresh-given : (model : ℕ) (clock : Clock) → is-fresh model clock ≡ true → fresh model clock ≡ fresh-printer model clock
-fresh-given model clock e = checked-all (fresh-tests model clock) (λ (r : Refusal). first-printer) (fresh-printer model clock) e
+fresh-given model clock e = checked-all (fresh-tests model clock) (λ (r : Given). first-printer) (fresh-printer model clock) e
 
 fresh-sound : (model : ℕ) (clock : Clock) → is-fresh model clock ≡ true → valid (fresh-printer model clock) ≡ true
 fresh-sound model clock e = subst (λ (p : Printer). valid p ≡ true) (fresh-given model clock e) (fresh-valid model clock)

@@ -2,11 +2,12 @@
 -- outcomes says what stays and what is answered.
 use Prim.Native.Nat.{ℕ}
 use mathlib.Core.List.{List, [], _∷_}
-use mathlib.Core.Path.{_≡_, refl, sym, _∙_}
+use mathlib.Core.Path.{_≡_, refl, sym, _∙_, ap}
 use native.Mathlib.Omega.{arith}
 use borrow.Author.Tests.{leb-true, leb-false}
 use lib.Dec.{leb}
 use Rattle.frame.specs.Ground.{pick}
+use Rattle.frame.specs.declared.given.Given.{Given}
 use Rattle.frame.proofs.Ground.{pick-case, unless-tells, true-both, never}
 use Rattle.printer.specs.State.{printer-of, valid-state}
 use Rattle.printer.specs.Messages.{valid-store}
@@ -18,7 +19,7 @@ use Rattle.printer.specs.Demands.{Untouched, BadState, BadStateElsewhere
 use Rattle.printer.proofs.OutcomeLaws.{refusal-keeps}
 
 silent-one : (m : List ℕ) → Untouched m (silent (printer-of m) 1) 1
-silent-one m = record { gets = refl; takes = refl; writes = refl; prints = refl; stays = refl; stores = refl }
+silent-one m = record { gets = refl; nowhere = refl; takes = refl; writes = refl; prints = refl; stays = refl; stores = refl }
 
 pub bad-state : BadState
 unfolding outcome
@@ -31,15 +32,18 @@ bad-state m h e =
     Bad o = Untouched m o 1
 
 silent-two : (m : List ℕ) → Untouched m (silent (printer-of m) 2) 2
-silent-two m = record { gets = refl; takes = refl; writes = refl; prints = refl; stays = refl; stores = refl }
+silent-two m = record { gets = refl; nowhere = refl; takes = refl; writes = refl; prints = refl; stays = refl; stores = refl }
+
+abbrev number : Given → ℕ
+number g = g .number
 
 pub bad-state-elsewhere : BadStateElsewhere
 unfolding set-clock tick-clock
 bad-state-elsewhere m =
     record {
-      clock-set = λ c r m′ v p. (p .number ∙ rw v, p .state ∙ rw v);
-      second-passes = λ r m′ v p. (p .number ∙ rw v, p .state ∙ rw v);
-      fresh = λ model c r m′ v p. (p .number ∙ rw v, p .state ∙ rw v);
+      clock-set = λ c r m′ v p. (ap number (p .gives) ∙ rw v, p .state ∙ rw v);
+      second-passes = λ r m′ v p. (ap number (p .gives) ∙ rw v, p .state ∙ rw v);
+      fresh = λ model c r m′ v p. (ap number (p .gives) ∙ rw v, p .state ∙ rw v);
     }
 
 pub short-buffer : ShortBuffer

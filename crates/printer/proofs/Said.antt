@@ -5,14 +5,15 @@ use mathlib.Core.List.{List, [], _∷_, map}
 use mathlib.Core.Path.{_≡_, refl, sym, _∙_, ap, subst}
 use native.Mathlib.Nat.{not-suc-le-zero}
 use native.Mathlib.Omega.{arith}
-use borrow.Author.Tests.{eq-eqb, ne-eqb, eqb-true}
+use borrow.Author.Tests.{ne-eqb, eqb-true}
 use borrow.Rule.Slice.PartMut.{midOf, putMid}
 use lib.Dec.{eqb}
 use lib.ListN.{length, set, take, length-append, length-take}
-use Rattle.frame.specs.Ground.{Refusal, Test, all, joined, over, pick}
+use Rattle.frame.specs.Ground.{Test, all, joined, over, pick, plain}
+use Rattle.frame.specs.declared.given.Given.{Given}
 use Rattle.frame.specs.Wire.{fits, size-of}
 use Rattle.frame.specs.Receive.{received}
-use Rattle.frame.proofs.Ground.{lent-tail, tail-back}
+use Rattle.frame.proofs.Ground.{checked-all, lent-tail, tail-back}
 use Rattle.printer.specs.State.{Printer, printer-of, bytes-of}
 use Rattle.printer.specs.Order.{Order, StoreChange, unchanged, storing, store-after, no-strips, Obeys}
 use Rattle.printer.specs.Answer.{Silent, Settles, Tells, TellsOrder, ack, nack}
@@ -58,6 +59,7 @@ meets-silent p {number} m answer strips n s =
     rw (s .answered)
     (record {
       gives = refl;
+      places = refl;
       consumes = refl;
       answers = refl;
       prints = refl;
@@ -67,32 +69,34 @@ meets-silent p {number} m answer strips n s =
     })
 
 -- What stands in the answer buffer before its first byte is settled does not matter where that byte is all.
-pub meets-refusal : (p : Printer) {number consumed frame : ℕ} (m : List ℕ) {answer : List ℕ} (strips : List ℕ) {before : List ℕ} {a : Answered} {answer′ : List ℕ} → (number ≡ 0 → ⊥)
-    → set before 0 nack ≡ over (nack ∷ []) answer → Settles number consumed frame before a answer′ → Meets (refusal p number consumed) m answer strips a m answer′ strips
-meets-refusal p {number} {consumed} {frame} m strips {before} n q s =
+pub meets-refusal : (p : Printer) {g : Given} {consumed frame : ℕ} (m : List ℕ) {answer : List ℕ} (strips : List ℕ) {before : List ℕ} {a : Answered} {answer′ : List ℕ} → (g .number ≡ 0 → ⊥)
+    → set before 0 nack ≡ over (nack ∷ []) answer → Settles g consumed frame before a answer′ → Meets (refusal p g consumed) m answer strips a m answer′ strips
+meets-refusal p {g} m strips n q s =
     rw (s .answered)
     (record {
       gives = refl;
+      places = refl;
       consumes = refl;
-      answers = rw (ne-eqb number 0 n);
+      answers = rw (ne-eqb (g .number) 0 n);
       prints = refl;
-      leaves = rw (ne-eqb number 0 n);
-      answer-bytes = s .bytes ∙ rw (ne-eqb number 0 n) q;
+      leaves = rw (ne-eqb (g .number) 0 n);
+      answer-bytes = s .bytes ∙ rw (ne-eqb (g .number) 0 n) q;
       strip-bytes = refl;
     })
 
-pub meets-done : (o : Order) {number consumed : ℕ} (m : List ℕ) {answer : List ℕ} (strips : List ℕ) {before : List ℕ} {a : Answered} {m′ answer′ : List ℕ} → o .strips ≡ no-strips → number ≡ 0
-    → set before 0 ack ≡ over (ack ∷ o .frame) answer → Settles number consumed (length (o .frame)) before a answer′ → m′ ≡ bytes-of (o .after)
+pub meets-done : (o : Order) {g : Given} {consumed : ℕ} (m : List ℕ) {answer : List ℕ} (strips : List ℕ) {before : List ℕ} {a : Answered} {m′ answer′ : List ℕ} → o .strips ≡ no-strips → g ≡ plain 0
+    → set before 0 ack ≡ over (ack ∷ o .frame) answer → Settles g consumed (length (o .frame)) before a answer′ → m′ ≡ bytes-of (o .after)
     → Meets (done o consumed) m answer strips a m′ answer′ strips
-meets-done o {number} m strips e n q s k =
-    rw (s .answered)
+meets-done o m strips e n q s k =
+    rw (s .answered, n)
     (record {
-      gives = n;
+      gives = refl;
+      places = refl;
       consumes = refl;
-      answers = rw (eq-eqb number 0 n) (omega arith);
+      answers = omega arith;
       prints = rw e;
       leaves = k;
-      answer-bytes = s .bytes ∙ rw (eq-eqb number 0 n) q;
+      answer-bytes = s .bytes ∙ rw n q;
       strip-bytes = rw e;
     })
 
@@ -107,33 +111,33 @@ pub record Asks (p : Printer) (o : Order) : Type 0 where
   pub after : o .after ≡ p
   pub strips : o .strips ≡ no-strips
 
-pub meets-changed : (p : Printer) (o : Order) {number consumed : ℕ} {m answer : List ℕ} (strips : List ℕ) {a : Answered} {m′ answer′ : List ℕ} → Changes o
-    → 1 ≤ length answer → Obeys o m number m′ → Settles number consumed 0 answer a answer′ → Meets (obeyed p o consumed) m answer strips a m′ answer′ strips
-meets-changed p o {number} {consumed} {m} {answer} strips {a} {m′} {answer′} k h c s = go (all (o .tests)) refl
+pub meets-changed : (p : Printer) (o : Order) {g : Given} {consumed : ℕ} {m answer : List ℕ} (strips : List ℕ) {a : Answered} {m′ answer′ : List ℕ} → Changes o
+    → 1 ≤ length answer → Obeys o m g m′ → Settles g consumed 0 answer a answer′ → Meets (obeyed p o consumed) m answer strips a m′ answer′ strips
+meets-changed p o {consumed = consumed} {m} {answer} strips {a} {m′} {answer′} k h c s = go (all (o .tests)) refl
   where
     go : (t : Bool) → all (o .tests) ≡ t → Meets (obeyed p o consumed) m answer strips a m′ answer′ strips
     go true e =
         meets-same (obeyed-done p o consumed e)
-        (meets-done o m strips {before = answer} (k .strips) (c .number ∙ given-exactly (o .tests) (k .numbers) .0 e) (rw (k .frame) (one-byte ack answer h)) (rw (k .frame) s) (c .state ∙ rw e))
+        (meets-done o m strips {before = answer} (k .strips) (c .gives ∙ checked-all (o .tests) _ _ e) (rw (k .frame) (one-byte ack answer h)) (rw (k .frame) s) (c .state ∙ rw e))
     go false e =
         let same : m′ ≡ m = c .state ∙ rw e in
         rw same
         (meets-same (obeyed-refused p o consumed e)
-        (meets-refusal p m strips (not-zero (given-exactly (o .tests) (k .numbers) .1 e)) (one-byte nack answer h) (rw (c .number) at s)))
+        (meets-refusal p m strips (not-zero (given-exactly (o .tests) (k .numbers) .1 e)) (one-byte nack answer h) (rw (c .gives) at s)))
 
 pub meets-told : (p : Printer) (o : Order) {consumed : ℕ} {m answer : List ℕ} (strips : List ℕ) {t : Told} {last : List ℕ} {a : Answered} {answer′ : List ℕ} → Asks p o
     → bytes-of p ≡ m → 1 ≤ length answer → TellsOrder o (midOf 1 (length answer - 1) answer) t last
-    → Settles (t .number) consumed (t .size) (putMid 1 (length answer - 1) answer last) a answer′ → Meets (obeyed p o consumed) m answer strips a m answer′ strips
+    → Settles (plain (t .number)) consumed (t .size) (putMid 1 (length answer - 1) answer last) a answer′ → Meets (obeyed p o consumed) m answer strips a m answer′ strips
 meets-told p o {consumed} {m} {answer} strips {t} {last} {a} {answer′} k b h c s = go (all (o .tests)) refl
   where
     go : (holds : Bool) → all (o .tests) ≡ holds → Meets (obeyed p o consumed) m answer strips a m answer′ strips
     go true e =
         let size : t .size ≡ length (o .frame) = c .size ∙ rw e in
         meets-same (obeyed-done p o consumed e)
-        (meets-done o m strips (k .strips) (c .number ∙ given-exactly (o .tests) (k .numbers) .0 e) (first-byte ack (o .frame) answer last h (c .bytes ∙ rw e)) (rw size at s) (sym b ∙ ap bytes-of (sym (k .after))))
+        (meets-done o m strips (k .strips) (c .gives ∙ checked-all (o .tests) _ _ e) (first-byte ack (o .frame) answer last h (c .bytes ∙ rw e)) (rw size at s) (sym b ∙ ap bytes-of (sym (k .after))))
     go false e =
         meets-same (obeyed-refused p o consumed e)
-        (meets-refusal p m strips (not-zero (given-exactly (o .tests) (k .numbers) .1 e)) (first-byte nack [] answer last h (c .bytes ∙ rw e)) (rw (c .number) at s))
+        (meets-refusal p m strips (not-zero (given-exactly (o .tests) (k .numbers) .1 e)) (first-byte nack [] answer last h (c .bytes ∙ rw e)) (rw (c .gives) at s))
 
 -- The frame that is told has its place in the part that was lent for it.
 pub told-fits : {ts : List Test} {frame : List ℕ} (answer : List ℕ) {t : Told} {last : List ℕ} → Tells ts frame (midOf 1 (length answer - 1) answer) t last → 1 ≤ length answer
@@ -149,18 +153,19 @@ told-fits answer {last = last} c h e =
     )
 
 -- ---- An order that prints: the lengths of its strips stand in the place of none.
-pub meets-printed : (o : Order) {number consumed : ℕ} (m : List ℕ) {answer strips : List ℕ} {a : Answered} {m′ answer′ strips′ lengths : List ℕ} → o .frame ≡ [] → number ≡ 0 → 1 ≤ length answer
-    → Settles number consumed 0 answer a answer′ → m′ ≡ bytes-of (o .after) → lengths ≡ map length (o .strips) → strips′ ≡ over (joined (o .strips)) strips
-    → Meets (done o consumed) m answer strips (record { number = a .number; consumed = a .consumed; answer = a .answer; strips = lengths }) m′ answer′ strips′
-meets-printed o {number} m {answer} e n h s k l b =
-    rw (s .answered)
+pub meets-printed : (o : Order) {g : Given} {consumed : ℕ} (m : List ℕ) {answer strips : List ℕ} {a : Answered} {m′ answer′ strips′ lengths : List ℕ} → o .frame ≡ [] → g ≡ plain 0 → 1 ≤ length answer
+    → Settles g consumed 0 answer a answer′ → m′ ≡ bytes-of (o .after) → lengths ≡ map length (o .strips) → strips′ ≡ over (joined (o .strips)) strips
+    → Meets (done o consumed) m answer strips (record { number = a .number; place = a .place; consumed = a .consumed; answer = a .answer; strips = lengths }) m′ answer′ strips′
+meets-printed o m {answer} e n h s k l b =
+    rw (s .answered, n)
     (record {
-      gives = n;
+      gives = refl;
+      places = refl;
       consumes = refl;
-      answers = rw (e, eq-eqb number 0 n);
+      answers = rw e;
       prints = l;
       leaves = k;
-      answer-bytes = s .bytes ∙ rw (eq-eqb number 0 n) (one-byte ack answer h ∙ ap (λ (f : List ℕ). over (ack ∷ f) answer) (sym e));
+      answer-bytes = s .bytes ∙ rw n (one-byte ack answer h ∙ ap (λ (f : List ℕ). over (ack ∷ f) answer) (sym e));
       strip-bytes = b;
     })
 
@@ -192,25 +197,25 @@ same-state : (t : Bool) {m b : List ℕ} → b ≡ m → m ≡ pick t b m
 same-state true e = sym e
 same-state false e = refl
 
-pub fulfils-stored : (p : Printer) (store d : List ℕ) {number consumed : ℕ} {m answer : List ℕ} (strips : List ℕ) {a : Answered} {store′ answer′ : List ℕ} → bytes-of p ≡ m
-    → 1 ≤ length answer → ChangesStore (store-tests store d) (storing (stored-number d) (stored-body d)) store number store′ → Settles number consumed 0 answer a answer′
+pub fulfils-stored : (p : Printer) (store d : List ℕ) {g : Given} {consumed : ℕ} {m answer : List ℕ} (strips : List ℕ) {a : Answered} {store′ answer′ : List ℕ} → bytes-of p ≡ m
+    → 1 ≤ length answer → ChangesStore (store-tests store d) (storing (stored-number d) (stored-body d)) store g store′ → Settles g consumed 0 answer a answer′
     → Fulfils (obeyed p (store-message p store d) consumed) m store answer strips a m store′ answer′ strips
 unfolding store-message
 fulfils-stored p store d {consumed = consumed} strips b h c s =
     let o = store-message p store d in
     record {
-      meets = meets-changed p o strips (record { numbers = refl; frame = refl; strips = refl }) h (record { number = c .number; state = same-state (all (o .tests)) b }) s;
+      meets = meets-changed p o strips (record { numbers = refl; frame = refl; strips = refl }) h (record { gives = c .gives; state = same-state (all (o .tests)) b }) s;
       stores = c .bytes ∙ sym (obeyed-store p o consumed store);
     }
 
 -- ---- What is handed in: silence where the state, the store or a buffer is not as it must be, and else what is handled.
-pub receives-silent : (m store s answer strips : List ℕ) {number : ℕ} {a : Answered} → Fails (handing-tests m (handed store s answer strips)) number → (number ≡ 0 → ⊥)
+pub receives-silent : (m store s answer strips : List ℕ) {number : ℕ} {a : Answered} → Fails (handing-tests m (handed store s answer strips)) (plain number) → (number ≡ 0 → ⊥)
     → Silent number a → Receives m store s answer strips a m store answer strips
 unfolding outcome
 receives-silent m store s answer strips f n x =
     record {
       fulfils =
-          fulfils-same (fails-checked (silent (printer-of m)) (handled (printer-of m) store s (received s)) f)
+          fulfils-same (fails-checked (λ (r : Given). silent (printer-of m) (r .number)) (handled (printer-of m) store s (received s)) f)
           (record { meets = meets-silent (printer-of m) m answer strips n x; stores = refl });
     }
 
@@ -218,7 +223,7 @@ pub receives-handled : {m store s answer strips : List ℕ} {a : Answered} {m′
     → Fulfils (handled (printer-of m) store s (received s)) m store answer strips a m′ store′ answer′ strips′ → Receives m store s answer strips a m′ store′ answer′ strips′
 unfolding outcome
 receives-handled {m} {store} {s} f x =
-    record { fulfils = fulfils-same (passes-checked (λ (r : Refusal). silent (printer-of m) (r .number)) (handled (printer-of m) store s (received s)) f) x }
+    record { fulfils = fulfils-same (passes-checked (λ (r : Given). silent (printer-of m) (r .number)) (handled (printer-of m) store s (received s)) f) x }
 
 -- ---- A row of the table, and the length that it gives.
 pub row : (identifier k n : ℕ) → identifier ≡ k → fits (size-of identifier) n ≡ true → fits (size-of k) n ≡ true

@@ -4,7 +4,8 @@ use mathlib.Core.Bool.{true}
 use mathlib.Core.List.{List}
 use mathlib.Core.Path.{_≡_, refl, sym}
 use lib.ListN.{take, drop}
-use Rattle.frame.specs.Ground.{Refusal, all}
+use Rattle.frame.specs.Ground.{all}
+use Rattle.frame.specs.declared.given.Given.{Given}
 use Rattle.frame.specs.Receive.{received}
 use Rattle.frame.specs.declared.receive.Received.{Received}
 use Rattle.frame.specs.declared.receive.Received.the-variants.{Partial, Refused, Misfit, Enquiry, Update, Frame}
@@ -45,7 +46,7 @@ pub store-stays : StoreStays
 unfolding outcome
 store-stays m h w =
     checked-case (λ (x : Outcome). Fine (h .store) w (x .store)) (handing-tests m h)
-    (λ (r : Refusal). silent (printer-of m) (r .number)) (handled (printer-of m) (h .store) (h .bytes) (received (h .bytes))) (λ _ _. w)
+    (λ (r : Given). silent (printer-of m) (r .number)) (handled (printer-of m) (h .store) (h .bytes) (received (h .bytes))) (λ _ _. w)
     (λ _. handled-fine (h .store) w (printer-of m) (h .bytes) (received (h .bytes)))
 
 -- ---- What an accepted 1Ch leaves.

@@ -4,8 +4,10 @@ use mathlib.Core.List.{List, []}
 use mathlib.Core.Path.{_≡_}
 use lib.Dec.{eqb}
 use lib.ListN.{length, set, replicate}
-use Rattle.frame.specs.Ground.{Test, pick, all, over}
-use Rattle.printer.specs.Order.{Order, given}
+use Rattle.frame.specs.Ground.{Test, pick, all, given, over, plain}
+use Rattle.frame.specs.declared.given.Given.{Given}
+use Rattle.frame.specs.declared.given.Where.the-variants.{Nowhere}
+use Rattle.printer.specs.Order.{Order}
 use Rattle.printer.specs.declared.answer.Answered.{Answered}
 use Rattle.printer.specs.declared.request.Told.{Told}
 
@@ -21,19 +23,27 @@ none = replicate 4 0
 
 -- Numbers 1 to 3.
 pub record Silent (number : ℕ) (r : Answered) : Type 0 where
-  pub answered : r ≡ record { number = number; consumed = 0; answer = 0; strips = none }
+  pub answered : r ≡ record { number = number; place = Nowhere; consumed = 0; answer = 0; strips = none }
 
--- 06h for 0, before a frame of so many bytes; 15h alone for any other number.
-pub record Settles (number consumed frame : ℕ) (before : List ℕ) (r : Answered) (after : List ℕ) : Type 0 where
-  pub answered : r ≡ record { number = number; consumed = consumed; answer = pick (eqb number 0) (frame + 1) 1; strips = none }
-  pub bytes : after ≡ set before 0 (pick (eqb number 0) ack nack)
+-- 06h for 0, before a frame of so many bytes; 15h alone for any other number. The place goes with it.
+pub record Settles (g : Given) (consumed frame : ℕ) (before : List ℕ) (r : Answered) (after : List ℕ) : Type 0 where
+  pub answered :
+      r ≡
+      record {
+        number = g .number;
+        place = g .place;
+        consumed = consumed;
+        answer = pick (eqb (g .number) 0) (frame + 1) 1;
+        strips = none;
+      }
+  pub bytes : after ≡ set before 0 (pick (eqb (g .number) 0) ack nack)
 
 -- The frame that is told, where the tests before it all hold.
 abbrev pub told : List Test → List ℕ → List ℕ
 told tests frame = pick (all tests) frame []
 
 pub record Tells (tests : List Test) (frame before : List ℕ) (r : Told) (after : List ℕ) : Type 0 where
-  pub number : r .number ≡ given tests
+  pub gives : plain (r .number) ≡ given tests
   pub size : r .size ≡ length (told tests frame)
   pub bytes : after ≡ over (told tests frame) before
 

@@ -4,10 +4,11 @@ use mathlib.Core.List.{List, [], _∷_}
 use mathlib.Core.Path.{_≡_}
 use lib.Dec.{eqb}
 use lib.ListN.{length}
-use Rattle.frame.specs.Ground.{Test, Refusal, within, pick, test, checked}
+use Rattle.frame.specs.Ground.{Test, given, within, pick, plain, test, checked}
+use Rattle.frame.specs.declared.given.Given.{Given}
 use Rattle.calendar.specs.Clock.{is-real, date, moment, tick}
 use Rattle.printer.specs.State.{Printer, valid-state, printer-of, bytes-of, state-size, fresh-printer, with-clock}
-use Rattle.printer.specs.Order.{Order, change, given}
+use Rattle.printer.specs.Order.{Order, change}
 use Rattle.calendar.specs.declared.clock.Clock.{Clock}
 
 -- 01, Other calls: "both give the fresh type 1 at 1 January 2000, midnight".
@@ -20,10 +21,10 @@ abbrev pub fresh-tests : ℕ → Clock → List Test
 fresh-tests model clock = test (within 1 4 model) 14 ∷ test (is-real clock) 15 ∷ []
 
 abbrev pub fresh : ℕ → Clock → Printer
-fresh model clock = checked (fresh-tests model clock) (λ (r : Refusal). first-printer) (fresh-printer model clock)
+fresh model clock = checked (fresh-tests model clock) (λ (r : Given). first-printer) (fresh-printer model clock)
 
-abbrev pub fresh-number : List ℕ → ℕ → Clock → ℕ
-fresh-number m model clock = given (test (eqb (length m) state-size) 1 ∷ fresh-tests model clock)
+abbrev pub size-tests : List ℕ → ℕ → Clock → List Test
+size-tests m model clock = test (eqb (length m) state-size) 1 ∷ fresh-tests model clock
 
 -- 01, Other calls: "set the clock (1, 15) and tick (1), state unchanged when refused".
 unfoldable pub set-clock : List ℕ → Clock → Order
@@ -35,5 +36,5 @@ tick-clock m = change (test (valid-state m) 1 ∷ []) (with-clock (printer-of m)
 
 -- The contracts: the number handed back, and the state's bytes behind the call.
 pub record Freshens (m : List ℕ) (model : ℕ) (clock : Clock) (r : ℕ) (m′ : List ℕ) : Type 0 where
-  pub number : r ≡ fresh-number m model clock
+  pub gives : plain r ≡ given (size-tests m model clock)
   pub state : m′ ≡ pick (eqb (length m) state-size) (bytes-of (fresh model clock)) m

@@ -4,16 +4,17 @@ use mathlib.Core.List.{List, [], _∷_}
 use lib.Dec.{ltb}
 use lib.ListN.{getD, take, drop}
 use mathlib.Core.Path.{_≡_}
-use Rattle.frame.specs.Ground.{Test, all, pick, test}
+use Rattle.frame.specs.Ground.{Test, all, given, pick, test}
+use Rattle.frame.specs.declared.given.Given.{Given}
 use Rattle.frame.specs.Wire.{word}
 use Rattle.content.specs.Machine.{start}
-use Rattle.content.specs.Content.{is-content}
+use Rattle.content.specs.Content.{content-tests}
 use Rattle.content.specs.Position.{field-positions}
 use Rattle.content.specs.Edit.{edit-tests, replaced}
 use Rattle.content.specs.Update.{laid, update-tests}
 use Rattle.printer.specs.Jet.{Jet, head-jet, has-message, message, good-parameters, with-message, with-parameters, jet-of, jet-bytes}
 use Rattle.printer.specs.State.{Printer, jet-at, with-jet}
-use Rattle.printer.specs.Order.{Order, change, given, on-printer, jet-in, with-jet-in}
+use Rattle.printer.specs.Order.{Order, change, on-printer, jet-in, with-jet-in}
 use Rattle.printer.specs.declared.change.Change.{Change}
 use Rattle.printer.specs.declared.change.Change.the-variants.{Message, Parameters, Both, Characters}
 
@@ -29,9 +30,9 @@ address-in d = word (getD d 1 0) (getD d 2 0)
 -- Numbers: 9 "parameters not good", 10 "not a content", 11 "no content", 12 "an addressed byte is no character position", 13 "a new
 -- symbol [..] is no character".
 abbrev pub change-tests : Change → Jet → List ℕ → List Test
-change-tests Message j d = test (is-content (drop 1 d)) 10 ∷ []
+change-tests Message j d = content-tests (drop 1 d)
 change-tests Parameters j d = test (good-parameters (parameters-in d)) 9 ∷ []
-change-tests Both j d = test (good-parameters (parameters-in d)) 9 ∷ test (is-content (drop 38 d)) 10 ∷ []
+change-tests Both j d = test (good-parameters (parameters-in d)) 9 ∷ content-tests (drop 38 d)
 change-tests Characters j d = test (has-message j) 11 ∷ edit-tests (message j) (address-in d) (drop 3 d)
 
 -- 01, What an accepted frame does: "0Ah, 0Bh, 0Ch replace what they name on that jet", "42h replaces bytes from the address on".
@@ -104,11 +105,11 @@ unfoldable pub update-fields : Printer → List ℕ → Order
 update-fields p text =
     change (test (ltb 0 (head-positions p)) 11 ∷ update-tests (head-positions p) text) (updated-head p text)
 
--- A jet's bytes behind some tests: their number, and the bytes of another jet where they all hold.
-pub record BecomesJet (tests : List Test) (j : Jet) (b : List ℕ) (r : ℕ) (b′ : List ℕ) : Type 0 where
-  pub number : r ≡ given tests
+-- A jet's bytes behind some tests: what they give, and the bytes of another jet where they all hold.
+pub record BecomesJet (tests : List Test) (j : Jet) (b : List ℕ) (r : Given) (b′ : List ℕ) : Type 0 where
+  pub gives : r ≡ given tests
   pub jet : b′ ≡ pick (all tests) (jet-bytes j) b
 
 -- What a change makes of a jet's bytes.
-abbrev pub ChangesJet : Change → List ℕ → List ℕ → ℕ → List ℕ → Type 0
+abbrev pub ChangesJet : Change → List ℕ → List ℕ → Given → List ℕ → Type 0
 ChangesJet what d b r b′ = BecomesJet (change-tests what (jet-of b) d) (changed-jet what (jet-of b) d) b r b′

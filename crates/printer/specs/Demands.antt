@@ -6,7 +6,8 @@ use mathlib.Core.Logic.{_↔_}
 use mathlib.Core.Path.{_≡_}
 use lib.Dec.{eqb, leb, ltb}
 use lib.ListN.{length, getD, take, drop}
-use Rattle.frame.specs.Ground.{pick, both, within, has, all}
+use Rattle.frame.specs.Ground.{pick, both, plain, within, has, all}
+use Rattle.frame.specs.declared.given.Where.the-variants.{Nowhere, At}
 use Rattle.frame.specs.Wire.{size-of, fits}
 use Rattle.frame.specs.Build.{frame, Builds}
 use Rattle.frame.specs.declared.build.Built.the-variants.{Written}
@@ -15,6 +16,7 @@ use Rattle.frame.specs.declared.receive.Received.{Received}
 use Rattle.frame.specs.declared.receive.Received.the-variants.{Partial, Refused, Misfit, Enquiry, Update, Frame}
 use Rattle.content.specs.Byte.{all-characters}
 use Rattle.content.specs.Content.{is-content}
+use Rattle.content.specs.PlaceLaws.{FirstAstray, FirstOther, TenAt}
 use Rattle.content.specs.Position.{is-field-position, is-position}
 use Rattle.content.specs.Grammar.{Tree, encode, good-tree, outline, resolved, shape}
 use Rattle.content.specs.Marks.{tree-letters, tree-marks}
@@ -62,6 +64,7 @@ full store s = record { bytes = s; store = store; answer-room = answer-size; str
 -- With a bad state or a short buffer nothing is consumed, written or changed.
 pub record Untouched (m : List ℕ) (o : Outcome) (number : ℕ) : Type 0 where
   pub gets : o .number ≡ number
+  pub nowhere : o .place ≡ Nowhere
   pub takes : o .consumed ≡ 0
   pub writes : o .answer ≡ []
   pub prints : o .strips ≡ no-strips
@@ -74,8 +77,8 @@ BadState =
 
 -- So it is where the clock is set and where a second passes: 1, and no byte changes; and a fresh printer wants bytes of a state's size.
 pub record OtherCalls (m : List ℕ) : Type 0 where
-  pub clock-set : (c : Clock) (r : ℕ) (m′ : List ℕ) → valid-state m ≡ false → Obeys (set-clock m c) m r m′ → (r ≡ 1) × (m′ ≡ m)
-  pub second-passes : (r : ℕ) (m′ : List ℕ) → valid-state m ≡ false → Obeys (tick-clock m) m r m′ → (r ≡ 1) × (m′ ≡ m)
+  pub clock-set : (c : Clock) (r : ℕ) (m′ : List ℕ) → valid-state m ≡ false → Obeys (set-clock m c) m (plain r) m′ → (r ≡ 1) × (m′ ≡ m)
+  pub second-passes : (r : ℕ) (m′ : List ℕ) → valid-state m ≡ false → Obeys (tick-clock m) m (plain r) m′ → (r ≡ 1) × (m′ ≡ m)
   pub fresh :
       (model : ℕ) (c : Clock) (r : ℕ) (m′ : List ℕ) → eqb (length m) state-size ≡ false →
       Freshens m model c r m′ → (r ≡ 1) × (m′ ≡ m)
@@ -124,18 +127,55 @@ abbrev pub update-number : ℕ → List ℕ → ℕ
 update-number positions text =
     pick (eqb positions 0) 11 (pick (eqb (length text) positions) (pick (all-characters text) 0 13) 18)
 
--- An update on the line, alone or with bytes behind it: all bytes between 02h and 03h count, characters or not, and with every number it is
--- consumed through its 03h.
-abbrev pub UpdateNumbered : Type 0
-UpdateNumbered =
+-- What is true of every update on the line, alone or with bytes behind it: of the state, the text and what comes of it.
+abbrev pub OfUpdates : (List ℕ → List ℕ → Outcome → Type 0) → Type 0
+OfUpdates P =
     (m store text rest : List ℕ) →
     valid-state m ≡ true →
     valid-store store ≡ true →
     length text ≤ 1022 →
     has 0x03 text ≡ false →
-    let o = outcome m (full store (0x02 ∷ text ++ (0x03 ∷ rest))) in
+    P m text (outcome m (full store (0x02 ∷ text ++ (0x03 ∷ rest))))
+
+-- All bytes between 02h and 03h count, characters or not, and with every number it is consumed through its 03h.
+abbrev pub UpdateNumbered : Type 0
+UpdateNumbered =
+    OfUpdates
+    (λ m text o.
     (o .number ≡ update-number (length (letters (printer-of m) 1) + length (letters (printer-of m) 2)) text)
-    × (o .consumed ≡ length text + 2)
+    × (o .consumed ≡ length text + 2))
+
+-- 02, Wish 4: "12 and 13 carry the first offending address or symbol index, from 0": of an update its characters count through, jet 2's
+-- behind jet 1's.
+abbrev pub UpdateTellsWhere : Type 0
+UpdateTellsWhere = OfUpdates (λ m text o. o .number ≡ 13 → (i : ℕ) × (o .place ≡ At i) × FirstOther text i)
+
+-- 02, Wish 4: "Refusal 10 shall carry a place in the content", which begins behind the jet of 0Ah, and behind the 38 bytes of jet or number
+-- and parameters of 0Ch and 1Ch.
+abbrev pub content-in : ℕ → List ℕ → List ℕ
+content-in identifier d = pick (eqb identifier 0x0A) (drop 1 d) (drop 38 d)
+
+-- Of a frame: 10 has the first byte with which no good content can begin, 12 the first address that is no character of the message's tree,
+-- 13 the first of the symbols that is no character.
+pub record TellsWhere (p : Printer) (identifier : ℕ) (d : List ℕ) (o : Outcome) : Type 0 where
+  pub ten : o .number ≡ 10 → (i : ℕ) × (o .place ≡ At i) × TenAt (content-in identifier d) i
+  pub twelve :
+      o .number ≡ 12 →
+      (i : ℕ) × (o .place ≡ At i) × FirstAstray (message (jet-in p d)) (address-in d) (length (drop 3 d)) i
+  pub thirteen : o .number ≡ 13 → (i : ℕ) × (o .place ≡ At i) × FirstOther (drop 3 d) i
+
+abbrev pub FrameTellsWhere : Type 0
+FrameTellsWhere =
+    (m store s : List ℕ) (identifier n consumed : ℕ) →
+    valid-state m ≡ true →
+    valid-store store ≡ true →
+    received s ≡ Frame identifier n consumed →
+    TellsWhere (printer-of m) identifier (take n (drop 3 s)) (outcome m (full store s))
+
+-- No other number has a place, whatever is handed in.
+abbrev pub NowhereElse : Type 0
+NowhereElse =
+    (m : List ℕ) (h : Handed) → has (outcome m h .number) (10 ∷ 12 ∷ 13 ∷ []) ≡ false → outcome m h .place ≡ Nowhere
 
 -- The message that a number in the data stands for: 02, Wish 1, 40h has "jet, number", and the body is "37 parameter bytes, content".
 abbrev pub selected-in : List ℕ → List ℕ → List ℕ
@@ -169,6 +209,7 @@ change-after identifier d = pick (eqb identifier 0x1C) (storing (getD d 0 0) (dr
 -- "and then has exactly the written effect, answer and strip included": where what is handed in passes, this is the outcome.
 pub record Effect (o : Outcome) (consumed : ℕ) (frame : List ℕ) (strips : List (List ℕ)) (p : Printer) (change : StoreChange) : Type 0 where
   pub acknowledged : o .number ≡ 0
+  pub nowhere : o .place ≡ Nowhere
   pub takes : o .consumed ≡ consumed
   pub answers : o .answer ≡ 0x06 ∷ frame
   pub prints : o .strips ≡ strips
@@ -212,7 +253,7 @@ pub record ReadAsBuilt (p : Printer) (store : List ℕ) (identifier : ℕ) (d : 
       pick
       (fits (size-of identifier) (length d))
       (obeyed p (order p store identifier d) (length d + 4))
-      (refusal p 7 (length d + 4))
+      (refusal p (plain 7) (length d + 4))
   pub takes : o .consumed ≡ length d + 4
   pub numbers :
       (o .number ≡ 0 → ⊥) → has (o .number) (7 ∷ 8 ∷ 9 ∷ 10 ∷ 11 ∷ 12 ∷ 13 ∷ 16 ∷ 17 ∷ []) ≡ true

@@ -4,13 +4,14 @@ use mathlib.Core.Bool.{Bool, true}
 use mathlib.Core.List.{List, [], _∷_}
 use mathlib.Core.Path.{_≡_}
 use lib.ListN.{getD, take, drop}
-use Rattle.frame.specs.Ground.{Test, all, both, pick, test}
-use Rattle.content.specs.Content.{is-content}
+use Rattle.frame.specs.Ground.{Test, all, both, given, pick, plain, test}
+use Rattle.frame.specs.declared.given.Given.{Given}
+use Rattle.content.specs.Content.{content-test, is-content}
 use Rattle.library.specs.Record.{Record, records}
 use Rattle.library.specs.Store.{body-of, has-room, held, is-number, is-store}
 use Rattle.printer.specs.Jet.{Jet, good-parameters}
 use Rattle.printer.specs.State.{Printer}
-use Rattle.printer.specs.Order.{Order, StoreChange, change, given, no-strips, on-printer, jet-in, with-jet-in, storing, store-after}
+use Rattle.printer.specs.Order.{Order, StoreChange, change, no-strips, on-printer, jet-in, with-jet-in, storing, store-after}
 use Rattle.printer.specs.Change.{with-both}
 
 -- 02, Wish 1: a message in the store is "37 parameter bytes, content".
@@ -43,7 +44,7 @@ abbrev pub store-tests : List ℕ → List ℕ → List Test
 store-tests store d =
     test (is-number (stored-number d)) 17
     ∷ test (good-parameters (body-parameters (stored-body d))) 9
-    ∷ test (is-content (body-content (stored-body d))) 10
+    ∷ content-test (body-content (stored-body d))
     ∷ test (has-room (stored-number d) (stored-body d) store) 16
     ∷ []
 
@@ -77,9 +78,9 @@ select-message p store d =
     (test (on-printer p d) 8 ∷ test (is-there store (selected-number d)) 17 ∷ [])
     (with-jet-in p d (selected-jet (jet-in p d) (selected-body store d)))
 
--- A store behind some tests: their number, and its bytes with the change where they all hold.
-pub record ChangesStore (tests : List Test) (change : StoreChange) (store : List ℕ) (r : ℕ) (store′ : List ℕ) : Type 0 where
-  pub number : r ≡ given tests
+-- A store behind some tests: what they give, and its bytes with the change where they all hold.
+pub record ChangesStore (tests : List Test) (change : StoreChange) (store : List ℕ) (r : Given) (store′ : List ℕ) : Type 0 where
+  pub gives : r ≡ given tests
   pub bytes : store′ ≡ pick (all tests) (store-after change store) store
 
 -- 02, Wish 1: "The approval screen asks for a record's content by number, lending the store and a jet's current content: it gets that part
@@ -91,5 +92,5 @@ abbrev pub shown : List ℕ → List ℕ → ℕ → List ℕ
 shown store current n = pick (held n (records store)) (body-content (body-of n (records store))) current
 
 pub record Shows (store current : List ℕ) (n refused : ℕ) (r : List ℕ) : Type 0 where
-  pub number : refused ≡ given (show-tests store n)
+  pub gives : plain refused ≡ given (show-tests store n)
   pub bytes : r ≡ pick (all (show-tests store n)) (shown store current n) []

@@ -1,22 +1,21 @@
 -- The tests of every frame and call of the printer stand in the order of the numbers, so that of those that apply the first is given.
 use Prim.Native.Nat.{ℕ}
 use mathlib.Core.Bool.{true}
-use mathlib.Core.List.{List, [], _∷_, _++_}
+use mathlib.Core.List.{List, [], _++_}
 use mathlib.Core.Path.{_≡_}
-use lib.Dec.{eqb}
-use lib.ListN.{length, take, drop}
-use Rattle.frame.specs.Ground.{Test, test}
+use lib.ListN.{take, drop}
+use Rattle.frame.specs.Ground.{Test, plain}
 use Rattle.frame.specs.Numbers.{FirstGiven, in-order}
 use Rattle.frame.specs.NumberLaws.{receive-tests}
 use Rattle.frame.specs.Receive.{received}
 use Rattle.frame.specs.declared.receive.Received.{Received}
 use Rattle.frame.specs.declared.receive.Received.the-variants.{Partial, Refused, Misfit, Enquiry, Update, Frame}
-use Rattle.printer.specs.State.{Printer, printer-of, state-size}
+use Rattle.printer.specs.State.{Printer, printer-of}
 use Rattle.printer.specs.Order.{Obeys}
 use Rattle.printer.specs.Change.{update-fields}
-use Rattle.printer.specs.Receive.{Handed, handing-tests, order, outcome}
+use Rattle.printer.specs.Receive.{Handed, given-by, handing-tests, order, outcome}
 use Rattle.printer.specs.Messages.{Shows, show-tests}
-use Rattle.printer.specs.Call.{Freshens, fresh-tests, set-clock, tick-clock}
+use Rattle.printer.specs.Call.{Freshens, set-clock, size-tests, tick-clock}
 use Rattle.calendar.specs.declared.clock.Clock.{Clock}
 
 -- 01, Numbers: "Checked in this order". Of each frame, an update, the bytes handed in, a fresh printer, setting the clock, a tick, and what
@@ -25,7 +24,7 @@ pub record InOrder : Type 0 where
   pub frames : (p : Printer) (store : List ℕ) (identifier : ℕ) (d : List ℕ) → in-order (order p store identifier d .tests) ≡ true
   pub updates : (p : Printer) (text : List ℕ) → in-order (update-fields p text .tests) ≡ true
   pub handing : (m : List ℕ) (h : Handed) → in-order (handing-tests m h) ≡ true
-  pub fresh : (m : List ℕ) (model : ℕ) (clock : Clock) → in-order (test (eqb (length m) state-size) 1 ∷ fresh-tests model clock) ≡ true
+  pub fresh : (m : List ℕ) (model : ℕ) (clock : Clock) → in-order (size-tests m model clock) ≡ true
   pub clock : (m : List ℕ) (clock : Clock) → in-order (set-clock m clock .tests) ≡ true
   pub tick : (m : List ℕ) → in-order (tick-clock m .tests) ≡ true
   pub show : (store : List ℕ) (n : ℕ) → in-order (show-tests store n) ≡ true
@@ -47,15 +46,15 @@ outcome-tests m h =
 
 -- 01, Numbers: "Checked in this order; the first that applies is given, and none otherwise". Of each call that gives a number.
 pub record CallsGiveFirst : Type 0 where
-  pub receive : (m : List ℕ) (h : Handed) → FirstGiven (outcome-tests m h) (outcome m h .number)
+  pub receive : (m : List ℕ) (h : Handed) → FirstGiven (outcome-tests m h) (given-by (outcome m h))
   pub fresh :
       (m : List ℕ) (model : ℕ) (clock : Clock) (r : ℕ) (m′ : List ℕ) →
       Freshens m model clock r m′ →
-      FirstGiven (test (eqb (length m) state-size) 1 ∷ fresh-tests model clock) r
+      FirstGiven (size-tests m model clock) (plain r)
   pub clock :
       (m : List ℕ) (clock : Clock) (r : ℕ) (m′ : List ℕ) →
-      Obeys (set-clock m clock) m r m′ →
-      FirstGiven (set-clock m clock .tests) r
-  pub tick : (m : List ℕ) (r : ℕ) (m′ : List ℕ) → Obeys (tick-clock m) m r m′ → FirstGiven (tick-clock m .tests) r
+      Obeys (set-clock m clock) m (plain r) m′ →
+      FirstGiven (set-clock m clock .tests) (plain r)
+  pub tick : (m : List ℕ) (r : ℕ) (m′ : List ℕ) → Obeys (tick-clock m) m (plain r) m′ → FirstGiven (tick-clock m .tests) (plain r)
   pub show :
-      (store current : List ℕ) (n refused : ℕ) (r : List ℕ) → Shows store current n refused r → FirstGiven (show-tests store n) refused
+      (store current : List ℕ) (n refused : ℕ) (r : List ℕ) → Shows store current n refused r → FirstGiven (show-tests store n) (plain refused)

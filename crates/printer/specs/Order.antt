@@ -4,7 +4,8 @@ use mathlib.Core.Bool.{Bool}
 use mathlib.Core.List.{List, []}
 use mathlib.Core.Path.{_≡_}
 use lib.ListN.{getD, replicate}
-use Rattle.frame.specs.Ground.{Test, all, pick, first-failing}
+use Rattle.frame.specs.Ground.{Test, all, given, pick}
+use Rattle.frame.specs.declared.given.Given.{Given}
 use Rattle.library.specs.Store.{stored}
 use Rattle.printer.specs.Jet.{Jet, has-jet, jet-size}
 use Rattle.printer.specs.State.{Printer, jet-at, with-jet, state-size, jet-place, bytes-of}
@@ -37,10 +38,6 @@ change tests after = record { tests = tests; after = after; store = unchanged; f
 abbrev pub tell : List Test → Printer → List ℕ → Order
 tell tests p frame = record { tests = tests; after = p; store = unchanged; frame = frame; strips = no-strips }
 
--- 01, Numbers: "the first that applies is given, and none otherwise"; and 0 is "done".
-abbrev pub given : List Test → ℕ
-given tests = first-failing tests
-
 -- The first data byte is the jet number: whether that jet is on the printer, what it is, and the state with another in its place.
 abbrev pub jet-number : List ℕ → ℕ
 jet-number d = getD d 0 0
@@ -58,9 +55,10 @@ with-jet-in p d j = with-jet p (jet-number d) j
 abbrev pub left : Order → List ℕ → List ℕ
 left o m = pick (all (o .tests)) (bytes-of (o .after)) m
 
--- An order on the state alone: its number, and the bytes that it leaves.
-pub record Obeys (o : Order) (m : List ℕ) (r : ℕ) (m′ : List ℕ) : Type 0 where
-  pub number : r ≡ given (o .tests)
+-- An order on the state alone: what it gives, and the bytes that it leaves. 01, Numbers: "the first that applies is given, and none
+-- otherwise"; and 0 is "done".
+pub record Obeys (o : Order) (m : List ℕ) (r : Given) (m′ : List ℕ) : Type 0 where
+  pub gives : r ≡ given (o .tests)
   pub state : m′ ≡ left o m
 
 -- Where the jet of the first data byte begins, and 0, where no jet begins, if it is not on the printer.

@@ -6,9 +6,9 @@ use mathlib.Core.List.{List, [], _∷_}
 use mathlib.Core.Path.{_≡_}
 use lib.Dec.{leb}
 use lib.ListN.{length}
-use Rattle.frame.specs.Ground.{Test, both, all}
+use Rattle.frame.specs.Ground.{Test, both, all, given}
 use Rattle.printer.specs.State.{Printer, valid}
-use Rattle.printer.specs.Order.{Order, given, unchanged, store-after}
+use Rattle.printer.specs.Order.{Order, unchanged, store-after}
 use Rattle.printer.specs.Change.{update-fields}
 use Rattle.printer.specs.Messages.{valid-store}
 use Rattle.printer.specs.Receive.{obeyed, done, refusal, order}
@@ -36,7 +36,7 @@ OrdersNumbered =
 abbrev pub GivenExactly : Type 0
 GivenExactly =
     (tests : List Test) → numbered tests ≡ true →
-    (all tests ≡ true → given tests ≡ 0) × (all tests ≡ false → 8 ≤ given tests)
+    (all tests ≡ true → given tests .number ≡ 0) × (all tests ≡ false → 8 ≤ given tests .number)
 
 -- What passes its tests leads from a valid state to a valid state, and keeps the type and the number of jets.
 pub record Keeps (p : Printer) (o : Order) : Type 0 where

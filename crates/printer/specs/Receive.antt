@@ -4,7 +4,10 @@ use mathlib.Core.List.{List, [], _∷_, map}
 use mathlib.Core.Path.{_≡_}
 use lib.Dec.{eqb, leb}
 use lib.ListN.{length, take, drop}
-use Rattle.frame.specs.Ground.{Refusal, Test, pick, test, checked, joined, over}
+use Rattle.frame.specs.Ground.{Test, pick, plain, test, checked, joined, over}
+use Rattle.frame.specs.declared.given.Given.{Given}
+use Rattle.frame.specs.declared.given.Where.{Where}
+use Rattle.frame.specs.declared.given.Where.the-variants.{Nowhere}
 use Rattle.frame.specs.Receive.{received}
 use Rattle.frame.specs.declared.receive.Received.{Received}
 use Rattle.frame.specs.declared.receive.Received.the-variants.{Partial, Refused, Misfit, Enquiry, Update, Frame}
@@ -31,25 +34,31 @@ pub record Handed : Type 0 where
   pub answer-room : ℕ
   pub strip-room : ℕ
 
--- 01, On the wire: "gets back a number, the count consumed, the answer's length and the length of each jet's strip (0 where none)".
+-- 01, On the wire: "gets back a number, the count consumed, the answer's length and the length of each jet's strip (0 where none)". 02,
+-- Wish 4: a number "shall carry a place", where it has one.
 pub record Outcome : Type 0 where
   pub number : ℕ
+  pub place : Where
   pub consumed : ℕ
   pub answer : List ℕ
   pub strips : List (List ℕ)
   pub printer : Printer
   pub store : StoreChange
 
+abbrev pub given-by : Outcome → Given
+given-by o = record { number = o .number; place = o .place }
+
 -- 01, Numbers, 1 to 3: nothing consumed, no answer.
 abbrev pub silent : Printer → ℕ → Outcome
 silent p number =
-    record { number = number; consumed = 0; answer = []; strips = no-strips; printer = p; store = unchanged }
+    record { number = number; place = Nowhere; consumed = 0; answer = []; strips = no-strips; printer = p; store = unchanged }
 
 -- 01, Numbers, 4 to 13: "15h", and "the state stays, as for a number added later".
-abbrev pub refusal : Printer → ℕ → ℕ → Outcome
-refusal p number consumed =
+abbrev pub refusal : Printer → Given → ℕ → Outcome
+refusal p g consumed =
     record {
-      number = number;
+      number = g .number;
+      place = g .place;
       consumed = consumed;
       answer = nack ∷ [];
       strips = no-strips;
@@ -62,6 +71,7 @@ abbrev pub done : Order → ℕ → Outcome
 done o consumed =
     record {
       number = 0;
+      place = Nowhere;
       consumed = consumed;
       answer = ack ∷ o .frame;
       strips = o .strips;
@@ -71,7 +81,7 @@ done o consumed =
 
 -- An order is refused at its first test that fails, or done.
 unfoldable pub obeyed : Printer → Order → ℕ → Outcome
-obeyed p o consumed = checked (o .tests) (λ (r : Refusal). refusal p (r .number) consumed) (done o consumed)
+obeyed p o consumed = checked (o .tests) (λ (r : Given). refusal p r consumed) (done o consumed)
 
 -- 01, On the wire, the table: the order of each identifier, in the table's order; the last row is D6h.
 unfoldable pub printer-order : Printer → ℕ → List ℕ → Order
@@ -100,8 +110,8 @@ enquire p = change [] p
 -- What was received, in a valid state, with a well-formed store and buffers of the stated size.
 abbrev pub handled : Printer → List ℕ → List ℕ → Received → Outcome
 handled p store s Partial = silent p 3
-handled p store s (Refused number consumed) = refusal p number consumed
-handled p store s (Misfit number identifier n consumed) = refusal p number consumed
+handled p store s (Refused number consumed) = refusal p (plain number) consumed
+handled p store s (Misfit number identifier n consumed) = refusal p (plain number) consumed
 handled p store s Enquiry = obeyed p (enquire p) 1
 handled p store s (Update n consumed) = obeyed p (update-fields p (take n (drop 1 s))) consumed
 handled p store s (Frame identifier n consumed) = obeyed p (order p store identifier (take n (drop 3 s))) consumed
@@ -120,7 +130,7 @@ unfoldable pub outcome : List ℕ → Handed → Outcome
 outcome m h =
     checked
     (handing-tests m h)
-    (λ (r : Refusal). silent (printer-of m) (r .number))
+    (λ (r : Given). silent (printer-of m) (r .number))
     (handled (printer-of m) (h .store) (h .bytes) (received (h .bytes)))
 
 -- The bytes of the state behind an outcome: "For 1 to 13 the state stays".
@@ -131,6 +141,7 @@ kept o m = pick (eqb (o .number) 0) (bytes-of (o .printer)) m
 -- buffer the strips one behind the other, and behind them each holds what it held.
 pub record Meets (o : Outcome) (m answer strips : List ℕ) (r : Answered) (m′ answer′ strips′ : List ℕ) : Type 0 where
   pub gives : r .number ≡ o .number
+  pub places : r .place ≡ o .place
   pub consumes : r .consumed ≡ o .consumed
   pub answers : r .answer ≡ length (o .answer)
   pub prints : r .strips ≡ map length (o .strips)

@@ -2,7 +2,7 @@
 use Prim.Native.Nat.{ℕ}
 use mathlib.Core.List.{List}
 use mathlib.Core.Path.{_≡_}
-use Rattle.frame.specs.Ground.{OneOutcome}
+use Rattle.frame.specs.Ground.{OneOutcome, plain}
 use Rattle.printer.specs.Order.{Order, Obeys}
 use Rattle.printer.specs.Messages.{Shows}
 use Rattle.printer.specs.Receive.{Receives}
@@ -19,10 +19,10 @@ abbrev pub ObeysUnique : Type 0
 ObeysUnique = (o : Order) (m : List ℕ) → OneOutcome (Obeys o m)
 
 abbrev pub SetClockUnique : Type 0
-SetClockUnique = (m : List ℕ) (clock : Clock) → OneOutcome (Obeys (set-clock m clock) m)
+SetClockUnique = (m : List ℕ) (clock : Clock) → OneOutcome (λ (r : ℕ). Obeys (set-clock m clock) m (plain r))
 
 abbrev pub TickUnique : Type 0
-TickUnique = (m : List ℕ) → OneOutcome (Obeys (tick-clock m) m)
+TickUnique = (m : List ℕ) → OneOutcome (λ (r : ℕ). Obeys (tick-clock m) m (plain r))
 
 -- `receive`: number, count, answer's length and strips' lengths are one answer; then the bytes of the state, of the store and of the two
 -- buffers.

@@ -10,6 +10,7 @@ use calendar::clock::moment;
 use content::byte::within;
 ghost use lib.ListN.{length};
 ghost use mathlib.Core.Path.{_≡_};
+ghost use Rattle.frame.specs.Ground.{plain};
 ghost use Rattle.printer.specs.Call.{Freshens, first-printer, set-clock, tick-clock};
 ghost use Rattle.printer.specs.Order.{Obeys};
 ghost use Rattle.printer.specs.State.{bytes-of, state-size};
@@ -43,7 +44,7 @@ pub fn fresh(state: &mut [u8], model: u8, clock: Clock) -> u8
 
 // Sets the clock to any real moment, also an earlier one: 1 for a state that is not valid, 15 for what is no real moment.
 pub fn set_clock(state: &mut [u8], clock: Clock) -> u8
-    ensures { λ r. ⌜ Obeys (set-clock (now (state .entry)) clock) (now (state .entry)) r (now (state .exit)) ⌝ }
+    ensures { λ r. ⌜ Obeys (set-clock (now (state .entry)) clock) (now (state .entry)) (plain r) (now (state .exit)) ⌝ }
 {
     if !valid_state(state) {
         return 1;
@@ -57,7 +58,7 @@ pub fn set_clock(state: &mut [u8], clock: Clock) -> u8
 
 // A second passes: 1 for a state that is not valid.
 pub fn tick(state: &mut [u8]) -> u8
-    ensures { λ r. ⌜ Obeys (tick-clock (now (state .entry))) (now (state .entry)) r (now (state .exit)) ⌝ }
+    ensures { λ r. ⌜ Obeys (tick-clock (now (state .entry))) (now (state .entry)) (plain r) (now (state .exit)) ⌝ }
 {
     if !valid_state(state) {
         return 1;

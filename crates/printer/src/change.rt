@@ -14,8 +14,11 @@ use crate::jet::put_parameters;
 use crate::jet::update_jet;
 use crate::state::jet_place;
 use crate::state::model;
-use content::byte::all_characters;
-use content::test::is_content;
+use content::item::characters_in_front;
+use content::test::test;
+use frame::given::Given;
+use frame::given::placed;
+use frame::given::plain;
 use frame::wire::word;
 ghost use Prim.Native.Nat.{_≤_};
 ghost use lib.ListN.{length};
@@ -52,61 +55,63 @@ pub(crate) fn place_in(state: &[u8], d: &[u8]) -> usize
 }
 
 // 0Ah.
-fn set_message(jet: &mut [u8], d: &[u8]) -> u8
+fn set_message(jet: &mut [u8], d: &[u8]) -> Given
     requires { ⌜ (length (now jet) ≡ jet-size) × (2 ≤ length (now d)) ⌝ }
     ensures { λ r. ⌜ ChangesJet Message (now (d .entry)) (now (jet .entry)) r (now (jet .exit)) ⌝ }
 {
     let message = &d[1..];
-    if !is_content(message) {
-        return 10;
+    let tested = test(message);
+    if tested.number != 0 {
+        return tested;
     }
     put_message(jet, message);
-    0
+    tested
 }
 
 // 0Bh.
-fn set_parameters(jet: &mut [u8], d: &[u8]) -> u8
+fn set_parameters(jet: &mut [u8], d: &[u8]) -> Given
     requires { ⌜ (length (now jet) ≡ jet-size) × (38 ≤ length (now d)) ⌝ }
     ensures { λ r. ⌜ ChangesJet Parameters (now (d .entry)) (now (jet .entry)) r (now (jet .exit)) ⌝ }
 {
     let parameters = &d[1..PARAMETERS_END];
     if !good_parameters(parameters) {
-        return 9;
+        return plain(9);
     }
     put_parameters(jet, parameters);
-    0
+    plain(0)
 }
 
 // 0Ch.
-fn set_both(jet: &mut [u8], d: &[u8]) -> u8
+fn set_both(jet: &mut [u8], d: &[u8]) -> Given
     requires { ⌜ (length (now jet) ≡ jet-size) × (39 ≤ length (now d)) ⌝ }
     ensures { λ r. ⌜ ChangesJet Both (now (d .entry)) (now (jet .entry)) r (now (jet .exit)) ⌝ }
 {
     let message = &d[PARAMETERS_END..];
     let parameters = &d[1..PARAMETERS_END];
     if !good_parameters(parameters) {
-        return 9;
+        return plain(9);
     }
-    if !is_content(message) {
-        return 10;
+    let tested = test(message);
+    if tested.number != 0 {
+        return tested;
     }
     put_both(jet, parameters, message);
-    0
+    tested
 }
 
 // 42h.
-fn edit_message(jet: &mut [u8], d: &[u8]) -> u8
+fn edit_message(jet: &mut [u8], d: &[u8]) -> Given
     requires { ⌜ (length (now jet) ≡ jet-size) × (jet-of (now jet) .length ≤ longest-message) × (4 ≤ length (now d)) ⌝ }
     ensures { λ r. ⌜ ChangesJet Characters (now (d .entry)) (now (jet .entry)) r (now (jet .exit)) ⌝ }
 {
     if !has_message(jet) {
-        return 11;
+        return plain(11);
     }
     edit_jet(jet, word(d[1], d[2]), &d[3..])
 }
 
 // One jet, by what is changed on it.
-fn change_jet(jet: &mut [u8], what: Change, d: &[u8]) -> u8
+fn change_jet(jet: &mut [u8], what: Change, d: &[u8]) -> Given
     requires { ⌜ (length (now jet) ≡ jet-size) × (jet-of (now jet) .length ≤ longest-message) × (least-data what ≤ length (now d)) ⌝ }
     ensures { λ r. ⌜ ChangesJet what (now (d .entry)) (now (jet .entry)) r (now (jet .exit)) ⌝ }
 {
@@ -119,20 +124,20 @@ fn change_jet(jet: &mut [u8], what: Change, d: &[u8]) -> u8
 }
 
 // The jet that a frame names.
-pub(crate) fn change_order(state: &mut [u8], what: Change, d: &[u8]) -> u8
+pub(crate) fn change_order(state: &mut [u8], what: Change, d: &[u8]) -> Given
     requires { ⌜ (valid-state (now state) ≡ true) × (least-data what ≤ length (now d)) ⌝ }
     ensures { λ r. ⌜ Obeys (change-order what (printer-of (now (state .entry))) (now (d .entry))) (now (state .entry)) r (now (state .exit)) ⌝ }
 {
     let at = place_in(state, d);
     if at == 0 {
-        return 8;
+        return plain(8);
     }
     let end = at + JET;
     change_jet(&mut state[at..end], what, d)
 }
 
 // A field update, over the jets of head 1: a character for each field position, jet 1's before jet 2's.
-pub(crate) fn update_fields(state: &mut [u8], text: &[u8]) -> u8
+pub(crate) fn update_fields(state: &mut [u8], text: &[u8]) -> Given
     requires { ⌜ valid-state (now state) ≡ true ⌝ }
     ensures { λ r. ⌜ Obeys (update-fields (printer-of (now (state .entry))) (now (text .entry))) (now (state .entry)) r (now (state .exit)) ⌝ }
 {
@@ -143,15 +148,16 @@ pub(crate) fn update_fields(state: &mut [u8], text: &[u8]) -> u8
     let taken = positions(&state[first..end]);
     let all = taken + positions(&state[second..behind]);
     if all == 0 {
-        return 11;
+        return plain(11);
     }
     if text.len() != all {
-        return 18;
+        return plain(18);
     }
-    if !all_characters(text) {
-        return 13;
+    let i = characters_in_front(text);
+    if i < all {
+        return placed(13, i);
     }
     update_jet(&mut state[first..end], &text[..taken]);
     update_jet(&mut state[second..behind], &text[taken..]);
-    0
+    plain(0)
 }

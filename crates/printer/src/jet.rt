@@ -14,6 +14,8 @@ use content::test::MESSAGE;
 use content::test::is_content;
 use content::update::lay_text;
 use frame::build::lay;
+use frame::given::Given;
+use frame::given::plain;
 use frame::wire::word;
 ghost use Prim.Native.Nat.{_-_, _≤_};
 ghost use lib.ListN.{length};
@@ -211,16 +213,16 @@ pub(crate) fn put_both(jet: &mut [u8], q: &[u8], message: &[u8])
     put_parameters(jet, q);
 }
 
-// 42h on one jet: its number, and the bytes replaced where that is 0.
-pub(crate) fn edit_jet(jet: &mut [u8], address: usize, symbols: &[u8]) -> u8
+// 42h on one jet: what it gives, and the bytes replaced where that is 0.
+pub(crate) fn edit_jet(jet: &mut [u8], address: usize, symbols: &[u8]) -> Given
     requires { ⌜ (length (now jet) ≡ jet-size) × (jet-of (now jet) .length ≤ longest-message) ⌝ }
     ensures { λ r. ⌜ BecomesJet (edit-tests (message (jet-of (now (jet .entry)))) address (now (symbols .entry))) (edited-jet (jet-of (now (jet .entry))) address (now (symbols .entry))) (now (jet .entry)) r (now (jet .exit)) ⌝ }
 {
     let end = CONTENT_AT + message_length(jet);
     let answer = edit(&mut jet[CONTENT_AT..end], address, symbols);
     match answer {
-        Edited::Done => 0,
-        Edited::Refused(number) => number,
+        Edited::Done => plain(0),
+        Edited::Refused(given) => given,
     }
 }
 

@@ -4,6 +4,9 @@ use crate::jet::JET;
 use crate::jet::good_parameters;
 use crate::jet::put_both;
 use content::test::is_content;
+use content::test::test;
+use frame::given::Given;
+use frame::given::plain;
 use library::record::HEAD;
 use library::record::Step;
 use library::record::record_at;
@@ -67,35 +70,36 @@ pub(crate) fn valid_store(store: &[u8]) -> bool
 }
 
 // 1Ch: every check stands before the first change.
-pub(crate) fn store_message(store: &mut [u8], d: &[u8]) -> u8
+pub(crate) fn store_message(store: &mut [u8], d: &[u8]) -> Given
     requires { ⌜ (valid-store (now store) ≡ true) × (39 ≤ length (now d)) ⌝ }
     ensures { λ r. ⌜ ChangesStore (store-tests (now (store .entry)) (now (d .entry))) (storing (stored-number (now (d .entry))) (stored-body (now (d .entry)))) (now (store .entry)) r (now (store .exit)) ⌝ }
 {
     if !is_number(d[0]) {
-        return 17;
+        return plain(17);
     }
     let message = &d[1..];
     if !good_parameters(&message[..PARAMETERS]) {
-        return 9;
+        return plain(9);
     }
-    if !is_content(&message[PARAMETERS..]) {
-        return 10;
+    let tested = test(&message[PARAMETERS..]);
+    if tested.number != 0 {
+        return tested;
     }
-    keep(store, d[0], message)
+    plain(keep(store, d[0], message))
 }
 
 // 40h: the store is well formed, so that a message in it is not tested again, and no record has a number that is not 1 to 79.
-pub(crate) fn select_message(state: &mut [u8], store: &[u8], d: &[u8]) -> u8
+pub(crate) fn select_message(state: &mut [u8], store: &[u8], d: &[u8]) -> Given
     requires { ⌜ (valid-state (now state) ≡ true) × (valid-store (now store) ≡ true) × (2 ≤ length (now d)) ⌝ }
     ensures { λ r. ⌜ Obeys (select-message (printer-of (now (state .entry))) (now (store .entry)) (now (d .entry))) (now (state .entry)) r (now (state .exit)) ⌝ }
 {
     let at = place_in(state, d);
     if at == 0 {
-        return 8;
+        return plain(8);
     }
     let found = body(store, d[1]);
     if found.len() == 0 {
-        return 17;
+        return plain(17);
     }
     let end = at + JET;
     put_both(
@@ -103,7 +107,7 @@ pub(crate) fn select_message(state: &mut [u8], store: &[u8], d: &[u8]) -> u8
         &found[..PARAMETERS],
         &found[PARAMETERS..],
     );
-    0
+    plain(0)
 }
 
 // What the approval screen shows for a number: the content of the record in the store, or the whole content lent where there is none;

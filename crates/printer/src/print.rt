@@ -14,6 +14,7 @@ use calendar::clock::entries;
 use content::strip::Values;
 use content::strip::put_strip;
 use frame::build::Built;
+use frame::given::plain;
 ghost use Prim.Native.Nat.{_≤_, _*_};
 ghost use lib.ListN.{length};
 ghost use mathlib.Core.Bool.{true};
@@ -96,11 +97,11 @@ pub(crate) fn print(
     ensures { λ r. ⌜ Meets (obeyed (printer-of (now (state .entry))) (print (printer-of (now (state .entry)))) consumed) (now (state .entry)) (now (answer .entry)) (now (out .entry)) r (now (state .exit)) (now (answer .exit)) (now (out .exit)) ⌝ }
 {
     if !ready(state) {
-        return settle(11, consumed, 0, answer);
+        return settle(plain(11), consumed, 0, answer);
     }
     let lengths = print_strips(state, out);
     count_jets(state);
-    let mut done = settle(0, consumed, 0, answer);
+    let mut done = settle(plain(0), consumed, 0, answer);
     done.strips = lengths;
     done
 }

@@ -16,6 +16,7 @@ use crate::request::ask_clock;
 use crate::request::ask_table;
 use crate::request::request_order;
 use crate::state::valid_state;
+use frame::given::plain;
 use frame::receive::Received;
 use frame::receive::receive as received;
 ghost use Prim.Native.Nat.{_≤_};
@@ -56,7 +57,7 @@ fn obey_printer(
     }
     if identifier == 0x39 {
         let told = request_order(state, Request::Counter, d, &mut answer[1..]);
-        return settle(told.number, consumed, told.size, answer);
+        return settle(plain(told.number), consumed, told.size, answer);
     }
     if identifier == 0x42 {
         return settle(
@@ -68,17 +69,17 @@ fn obey_printer(
     }
     if identifier == 0x43 {
         let told = request_order(state, Request::Message, d, &mut answer[1..]);
-        return settle(told.number, consumed, told.size, answer);
+        return settle(plain(told.number), consumed, told.size, answer);
     }
     if identifier == 0x52 {
         let told = ask_table(&mut answer[1..]);
-        return settle(told.number, consumed, told.size, answer);
+        return settle(plain(told.number), consumed, told.size, answer);
     }
     if identifier == 0x94 {
         return print(state, consumed, answer, strips);
     }
     let told = ask_clock(state, &mut answer[1..]);
-    settle(told.number, consumed, told.size, answer)
+    settle(plain(told.number), consumed, told.size, answer)
 }
 
 // A frame, by its identifier.
@@ -117,14 +118,14 @@ pub(crate) fn handle(
     let found = received(s);
     match found {
         Received::Partial => silent(3),
-        Received::Refused { number, consumed } => settle(number, consumed, 0, answer),
+        Received::Refused { number, consumed } => settle(plain(number), consumed, 0, answer),
         Received::Misfit {
             number,
             identifier: _,
             size: _,
             consumed,
-        } => settle(number, consumed, 0, answer),
-        Received::Enquiry => settle(0, 1, 0, answer),
+        } => settle(plain(number), consumed, 0, answer),
+        Received::Enquiry => settle(plain(0), 1, 0, answer),
         Received::Update { size, consumed } => settle(
             update_fields(state, &s[1..1 + size]),
             consumed,

@@ -3,6 +3,7 @@ use crate::show::UNWRITTEN;
 use crate::show::bytes;
 use crate::show::count;
 use crate::show::front;
+use crate::show::given;
 use crate::show::number;
 use crate::show::text;
 use calendar::clock::Clock;
@@ -10,6 +11,8 @@ use content::test::test;
 use frame::build::Built;
 use frame::build::build;
 use frame::build::lay;
+use frame::given::Given;
+use frame::given::Where;
 use printer::answer::Answered;
 use printer::call::fresh;
 use printer::call::set_clock;
@@ -37,6 +40,7 @@ pub(crate) const STRIPS: usize = 6_400;
 fn impossible() -> Answered {
     Answered {
         number: 99,
+        place: Where::Nowhere,
         consumed: 0,
         answer: 0,
         strips: [0; 4],
@@ -110,16 +114,23 @@ fn clear(buffer: &mut [u8], n: usize) {
     lay(buffer, front(&blank, n));
 }
 
+// The number that the box gives, and its place where it has one.
+fn outcome(done: Answered) {
+    let number = done.number;
+    let place = done.place;
+    given(Given { number, place });
+}
+
 // The answer's bytes, which are then as if they were not written.
 fn show_answer(answer: &mut [u8], done: Answered) {
-    number(done.number);
+    outcome(done);
     text(b" ");
     count(done.consumed);
     bytes(front(answer, done.answer));
     clear(answer, done.answer);
 }
 
-// Bytes handed in: the number, the count consumed, the answer, and the strips that were written.
+// Bytes handed in: the number with its place, the count consumed, the answer, and the strips that were written.
 pub(crate) fn hand_in(
     state: &mut [u8],
     store: &mut [u8],
@@ -152,7 +163,7 @@ pub(crate) fn frame(
     match built {
         Built::Refused(k) => {
             text(b" not built");
-            number(k);
+            given(k);
         }
         Built::Written(n) => hand_in(state, store, front(&out, n), answer, strips, rooms),
     }
@@ -194,10 +205,10 @@ fn both_numbers(
     rooms: Rooms,
 ) {
     let enquiry = handed_in(state, store, b"\x05", answer, strips, rooms);
-    number(enquiry.number);
+    outcome(enquiry);
     clear(answer, enquiry.answer);
     let nothing = handed_in(state, store, b"", answer, strips, rooms);
-    number(nothing.number);
+    outcome(nothing);
 }
 
 // A state in each call: the numbers for 05h, for no bytes, for setting a moment that is not real, and for a tick.
@@ -216,5 +227,5 @@ pub(crate) fn every_call(
 
 // The content test.
 pub(crate) fn tested(s: &[u8]) {
-    number(test(s));
+    given(test(s));
 }

@@ -2,7 +2,7 @@
 use crate::show::bytes;
 use crate::show::count;
 use crate::show::front;
-use crate::show::number;
+use crate::show::given;
 use crate::show::text;
 use crate::show::unwritten;
 use content::edit::Edited;
@@ -19,6 +19,8 @@ use frame::build::answer;
 use frame::build::build;
 use frame::build::lay;
 use frame::build::wrap;
+use frame::given::Given;
+use frame::given::plain;
 use line::Lined;
 use line::write_line;
 
@@ -39,9 +41,9 @@ fn mark(buffer: &[u8], written: usize) {
     }
 }
 
-fn show_refused(out: &[u8], k: u8) {
+fn show_refused(out: &[u8], k: Given) {
     text(b" refused");
-    number(k);
+    given(k);
     mark(out, 0);
 }
 
@@ -96,15 +98,15 @@ pub(crate) fn show_lay(out: &mut [u8], room: usize, data: &[u8]) {
         show_written(out, data.len());
         return;
     }
-    show_refused(out, 2);
+    show_refused(out, plain(2));
 }
 
-// The console's line for a number and an answer.
-pub(crate) fn show_line(out: &mut [u8], room: usize, number: u8, data: &[u8]) {
+// The console's line for a number, with a place or without, and an answer.
+pub(crate) fn show_line(out: &mut [u8], room: usize, what: Given, data: &[u8]) {
     if out.len() < room {
         return;
     }
-    let lined = write_line(&mut out[0..room], number, data);
+    let lined = write_line(&mut out[0..room], what, data);
     match lined {
         Lined::Short => {
             text(b" short");
@@ -146,32 +148,32 @@ pub(crate) fn show_positions(s: &[u8]) {
     count(field_positions(s));
 }
 
-fn edited_number(edited: Edited) -> u8 {
+fn of_edit(edited: Edited) -> Given {
     match edited {
-        Edited::Done => 0,
-        Edited::Refused(number) => number,
+        Edited::Done => plain(0),
+        Edited::Refused(k) => k,
     }
 }
 
-fn updated_number(updated: Updated) -> u8 {
+fn of_update(updated: Updated) -> Given {
     match updated {
-        Updated::Laid => 0,
-        Updated::Refused(number) => number,
+        Updated::Laid => plain(0),
+        Updated::Refused(k) => k,
     }
 }
 
-fn changed(s: &mut [u8], way: Way, text: &[u8]) -> u8 {
+fn changed(s: &mut [u8], way: Way, text: &[u8]) -> Given {
     match way {
-        Way::Edit(address) => edited_number(edit(s, address, text)),
-        Way::Update => updated_number(update(s, text)),
+        Way::Edit(address) => of_edit(edit(s, address, text)),
+        Way::Update => of_update(update(s, text)),
         Way::Text => {
             lay_text(s, text);
-            0
+            plain(0)
         }
     }
 }
 
-// The first k bytes change the others: the number, and the bytes.
+// The first k bytes change the others: the number with its place, and the bytes.
 pub(crate) fn show_change(out: &mut [u8], way: Way, k: usize, s: &[u8]) {
     if s.len() < k {
         return;
@@ -181,6 +183,6 @@ pub(crate) fn show_change(out: &mut [u8], way: Way, k: usize, s: &[u8]) {
         return;
     }
     lay(out, &s[k..]);
-    number(changed(&mut out[0..size], way, &s[0..k]));
+    given(changed(&mut out[0..size], way, &s[0..k]));
     bytes(front(out, size));
 }

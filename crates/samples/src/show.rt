@@ -1,4 +1,6 @@
-// Writing the outcome behind a line: numbers in decimal, bytes in capital hex.
+// Writing the outcome behind a line: numbers in decimal, a place behind a colon, bytes in capital hex.
+use frame::given::Given;
+use frame::given::Where;
 ghost use Prim.Native.Nat.{_<_};
 ghost use lib.ListN.{length};
 
@@ -13,6 +15,19 @@ pub(crate) fn count(n: usize) {
 pub(crate) fn number(n: u8) {
     text(b" ");
     count(n as usize);
+}
+
+// A number, and where it has a place a colon and the place.
+pub(crate) fn given(what: Given) {
+    number(what.number);
+    let place = what.place;
+    match place {
+        Where::Nowhere => {}
+        Where::At(i) => {
+            text(b":");
+            count(i);
+        }
+    }
 }
 
 // The first n bytes of a buffer, all of them where it has fewer.

@@ -39,6 +39,8 @@ use calendar::clock::Clock;
 use calendar::clock::Date;
 use content::byte::within;
 use frame::build::lay;
+use frame::given::placed;
+use frame::given::plain;
 use library::store::STORE;
 use printer::answer::ANSWER;
 use printer::answer::STRIPS as STRIP_BUFFER;
@@ -157,10 +159,18 @@ fn built(line: &[u8], out: &mut [u8], room: usize, s: &[u8]) {
         return;
     }
     if begins(line, b"line") {
-        show_line(out, room, s[0], &s[1..]);
+        show_line(out, room, plain(s[0]), &s[1..]);
         return;
     }
     show_wrap(out, room, s[0], number(line, 3));
+}
+
+// The console's line of a number with a place: the first byte is the number.
+fn line_at(line: &[u8], out: &mut [u8], room: usize, s: &[u8]) {
+    if s.len() < 1 {
+        return;
+    }
+    show_line(out, room, placed(s[0], number(line, 2)), &s[1..]);
 }
 
 // Bytes into a buffer of so many bytes.
@@ -191,6 +201,11 @@ fn lower(line: &[u8]) {
         let n = bytes_in(line, 3, &mut s);
         let way = Way::Edit(number(line, 1));
         show_change(&mut out, way, number(line, 2), front(&s, n));
+        return;
+    }
+    if begins(line, b"lineat") {
+        let n = bytes_in(line, 3, &mut s);
+        line_at(line, &mut out, number(line, 1), front(&s, n));
         return;
     }
     let n = bytes_in(line, 2, &mut s);

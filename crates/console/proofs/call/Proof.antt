@@ -14,26 +14,26 @@ inside c = answer-inside (c .receive .ensures .fulfils .meets)
 
 returns : tie.Need-returns
 returns c =
-    let at-store = c .before .before .before .before .before in
+    let at-store = c .before .before .before .before in
     let at-receive = at-store .before .before .before in
     waits _ (met (at-receive .receive .ensures) (search needs) (search needs)) (c .if1 .taken)
 
 array-share-prefix-answer : tie.Need-array-share-prefix-answer
 array-share-prefix-answer c =
-    let at-store = c .before .before .before .before .before .before in
+    let at-store = c .before .before .before .before .before in
     let at-receive = at-store .before .before .before in
     inside at-receive
 
 slice-aggregate-write-line : tie.Need-slice-aggregate-write-line
 slice-aggregate-write-line c =
-    let at-answer2 = c .before .before .before .before .before in
+    let at-answer2 = c .before .before .before .before in
     let at-receive = at-answer2 .before .before .before .before .before in
     sym (length-take-le _ _ (inside at-receive))
 
 returns-2 : tie.Need-returns-2
 returns-2 c =
     let at-write-line = c .before .before .before .before in
-    let at-answer2 = at-write-line .before .before .before .before .before .before in
+    let at-answer2 = at-write-line .before .before .before .before .before in
     let at-receive = at-answer2 .before .before .before .before .before in
     let at-answer = at-receive .before .before in
     let at-start = at-answer .before .before .before .before .before .before .before in
@@ -42,7 +42,7 @@ returns-2 c =
 returns-3 : tie.Need-returns-3
 returns-3 c =
     let at-write-line = c .before .before .before .before .before in
-    let at-answer2 = at-write-line .before .before .before .before .before .before in
+    let at-answer2 = at-write-line .before .before .before .before .before in
     let at-receive = at-answer2 .before .before .before .before .before in
     let at-answer = at-receive .before .before in
     let at-start = at-answer .before .before .before .before .before .before .before in

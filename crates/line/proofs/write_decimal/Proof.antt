@@ -1,93 +1,78 @@
--- `line::write_decimal` meets its contract: on each of its ways the digits' law says which bytes the number has, and they are stored one behind the other.
-use Prim.Native.Nat.{_≤_}
-use mathlib.Core.Path.{ap}
+-- `line::write_decimal` meets its contract. The loop keeps that the digits behind place i stand already and those of `left` belong up to it; `left` is the first digit at the end.
+use Prim.Native.Nat.{_/_}
+use mathlib.Core.Path.{_∙_}
 use native.Mathlib.Omega.{arith}
 use borrow.Author.Needs.{needs}
-use lib.ListN.{length, length-set}
-use Rattle.line.proofs.Laws.{one-digit, two-digits, three-digits, one-stored, two-stored, three-stored}
+use lib.ListN.{length-set}
+use Rattle.line.proofs.Laws.{some-digit, more-width, Partly, partly-none, partly-next, partly-all}
 use Rattle.line.proofs.write_decimal.Statement.{statement}
 use Rattle.line.proofs.write_decimal.Tie as tie
 
--- The room that two and three digits have.
-two : (c : tie.Then2) → 2 ≤ length (c .before .before .args .out .now)
-two c = omega (arith, ap length (two-digits (c .before .before .args .n) (c .before .if1 .left) (c .if2 .taken)))
+abbrev Inv-loop : tie.InvT-loop
+Inv-loop out₀ n digits left₀ i₀ out left i = Partly n left i out₀ out
 
-three : (c : tie.Else2) → 3 ≤ length (c .before .before .args .out .now)
-three c = omega (arith, ap length (three-digits (c .before .before .args .n) (c .if2 .left)))
+abbrev μ-loop : tie.MeasureT-loop
+μ-loop out₀ n digits left₀ i₀ out left i = left
 
-add-out : tie.Need-add-out
+width-requires : tie.Need-width-requires Inv-loop μ-loop
+width-requires c κs = search needs
+
+sub-i : tie.Need-sub-i Inv-loop μ-loop
+sub-i c = omega (arith, some-digit (c .before .before .args .n))
+
+loop-holds : tie.Need-loop-holds Inv-loop μ-loop
+loop-holds c = partly-none (c .before .before .args .n) (c .width .result) (c .before .before .args .out .now) (c .width .ensures .0) (omega arith)
+
+cast-out : tie.Need-cast-out Inv-loop μ-loop
+cast-out c = search needs
+
+add-out : tie.Need-add-out Inv-loop μ-loop
 add-out c = search needs
 
-slice-write-out : tie.Need-slice-write-out
-slice-write-out c = omega (arith, ap length (one-digit (c .before .args .n) (c .if1 .taken)))
+slice-write-out : tie.Need-slice-write-out Inv-loop μ-loop
+slice-write-out c = omega arith
 
-same-length : tie.Need-same-length
-same-length c = search needs
+sub-i-2 : tie.Need-sub-i-2 Inv-loop μ-loop
+sub-i-2 c = omega (arith, more-width (c .before .loop .left) (omega arith), some-digit (c .before .loop .left / 10))
 
-returns : tie.Need-returns
-returns c = one-stored (c .before .args .out .now) (c .before .args .n) (c .if1 .taken) (c .before .pre)
+loop-less : tie.Need-loop-less Inv-loop μ-loop
+loop-less c = omega arith
 
-add-out-2 : tie.Need-add-out-2
+loop-again : tie.Need-loop-again Inv-loop μ-loop
+loop-again c = partly-next (c .before .loop .inv) (omega arith)
+
+cast-out-2 : tie.Need-cast-out-2 Inv-loop μ-loop
+cast-out-2 c = search needs
+
+add-out-2 : tie.Need-add-out-2 Inv-loop μ-loop
 add-out-2 c = search needs
 
-slice-write-out-2 : tie.Need-slice-write-out-2
-slice-write-out-2 c = omega (arith, two c)
+slice-write-out-2 : tie.Need-slice-write-out-2 Inv-loop μ-loop
+slice-write-out-2 c = omega arith
 
-add-out-3 : tie.Need-add-out-3
-add-out-3 c = search needs
+same-length : tie.Need-same-length Inv-loop μ-loop
+same-length c = length-set (c .before .loop .out) _ _ ∙ c .before .loop .inv .kept
 
-slice-write-out-3 : tie.Need-slice-write-out-3
-slice-write-out-3 c = simp length-set (omega (arith, two c))
-
-same-length-2 : tie.Need-same-length-2
-same-length-2 c = search needs
-
-returns-2 : tie.Need-returns-2
-returns-2 c = two-stored (c .before .before .args .out .now) (c .before .before .args .n) (c .before .if1 .left) (c .if2 .taken) (c .before .before .pre)
-
-add-out-4 : tie.Need-add-out-4
-add-out-4 c = search needs
-
-slice-write-out-4 : tie.Need-slice-write-out-4
-slice-write-out-4 c = omega (arith, three c)
-
-add-out-5 : tie.Need-add-out-5
-add-out-5 c = search needs
-
-slice-write-out-5 : tie.Need-slice-write-out-5
-slice-write-out-5 c = simp length-set (omega (arith, three c))
-
-add-out-6 : tie.Need-add-out-6
-add-out-6 c = search needs
-
-slice-write-out-6 : tie.Need-slice-write-out-6
-slice-write-out-6 c = simp length-set (omega (arith, three c))
-
-same-length-3 : tie.Need-same-length-3
-same-length-3 c = search needs
-
-returns-3 : tie.Need-returns-3
-returns-3 c = three-stored (c .before .before .args .out .now) (c .before .before .args .n) (c .if2 .left) (c .before .before .pre)
+returns : tie.Need-returns Inv-loop μ-loop
+returns c = (c .before .before .width .ensures .0, partly-all (c .before .loop .inv) (omega arith))
 
 pub write-decimal-spec : {M : Type 1} → statement M
 write-decimal-spec =
     tie.close
     (tie.spec
+    Inv-loop
+    μ-loop
+    width-requires
+    sub-i
+    loop-holds
+    cast-out
     add-out
     slice-write-out
-    same-length
-    returns
+    sub-i-2
+    loop-less
+    loop-again
+    cast-out-2
     add-out-2
     slice-write-out-2
-    add-out-3
-    slice-write-out-3
-    same-length-2
-    returns-2
-    add-out-4
-    slice-write-out-4
-    add-out-5
-    slice-write-out-5
-    add-out-6
-    slice-write-out-6
-    same-length-3
-    returns-3)
+    same-length
+    returns)

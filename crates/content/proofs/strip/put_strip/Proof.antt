@@ -8,7 +8,8 @@ use borrow.Author.Needs.{needs}
 use borrow.Author.Tests.{leb-true, not-true, not-false}
 use lib.Dec.{leb}
 use lib.ListN.{length}
-use Rattle.frame.specs.Ground.{over}
+use Rattle.frame.specs.Ground.{over, plain}
+use Rattle.frame.specs.declared.given.Given.{Given}
 use Rattle.content.specs.Strip.{Puts, put-tests, strip, stripped}
 use Rattle.frame.specs.declared.build.Built.the-variants.{Refused, Written}
 use Rattle.content.specs.declared.strip.Values.{Values}
@@ -18,9 +19,9 @@ use Rattle.content.proofs.strip.put_strip.Statement.{statement}
 use Rattle.content.proofs.strip.put_strip.Tie as tie
 
 module _ (v : Values) (s before : List ℕ) {b : Bool} (e : b ≡ leb (3 * length s) (length before)) where
-  short : b ≡ false → Puts v s before (Refused 2) before
+  short : {g : Given} → g ≡ plain 2 → b ≡ false → Puts v s before (Refused g) before
   unfolding stripped
-  short h = strip-told (put-tests s (length before)) v s before (rw (sym e ∙ h)) refl
+  short p h = strip-told (put-tests s (length before)) v s before (ap Refused p ∙ rw (sym e ∙ h)) refl
 
   fits : length (v .digits) ≡ 9 → b ≡ true → length (strip v s) ≤ length before
   fits n h = let room = leb-true (3 * length s) (length before) (sym e ∙ h) in omega (arith, strip-fits v n s)
@@ -31,9 +32,10 @@ module _ (v : Values) (s before : List ℕ) {b : Bool} (e : b ≡ leb (3 * lengt
 
 returns : tie.Need-returns
 returns c =
-    let at-start = c .before .before .before .before in
-    let room = c .before .room-for-three in
-    short (at-start .args .values) (at-start .args .s .now) (at-start .args .out .now) (room .ensures) (not-true (room .result) (c .if1 .taken))
+    let at-room = c .before .before in
+    let at-start = at-room .before .before .before in
+    let room = at-room .room-for-three in
+    short (at-start .args .values) (at-start .args .s .now) (at-start .args .out .now) (room .ensures) (c .plain .ensures) (not-true (room .result) (c .before .if1 .taken))
 
 write-requires : tie.Need-write-requires
 write-requires c κs =
@@ -52,4 +54,12 @@ returns-2 c =
     written (at-start .args .values) (at-start .args .s .now) (at-start .args .out .now) (room .ensures) (not-false (room .result) (at-if1 .if1 .left)) (at-write .write .ensures)
 
 pub put-strip-spec : {M : Type 1} → statement M
-put-strip-spec = tie.close (tie.spec (λ c κs. search needs) returns write-requires (λ c. search needs) returns-2)
+put-strip-spec =
+    tie.close
+    (tie.spec
+    (λ c κs. search needs)
+    (λ c κs. search needs)
+    returns
+    write-requires
+    (λ c. search needs)
+    returns-2)

@@ -13,6 +13,7 @@ use Rattle.frame.specs.Ground.{over}
 use Rattle.frame.specs.Wire.{head-size, around, longest-data}
 use Rattle.frame.specs.Build.{answered, bytes-of, frame, Lays, Wraps, Sends}
 use Rattle.frame.specs.declared.build.Built.{Built}
+use Rattle.frame.specs.declared.build.Built.the-variants.{Refused}
 use Rattle.frame.proofs.Ground.{tests, length-over, over-under, laid-behind}
 use Rattle.frame.proofs.Told.{frame-length, answered-fits}
 use Rattle.frame.proofs.build.send.Statement.{statement}
@@ -63,20 +64,21 @@ module _ (identifier : ℕ) (before d last : List ℕ) (laid : Bool) (h : length
       }
 
 returns : tie.Need-returns
-returns c = record { answer = search tests; buffer = refl }
+returns c = record { answer = ap Refused (c .plain .ensures) ∙ search tests; buffer = refl }
 
 returns-2 : tie.Need-returns-2
-returns-2 c = record { answer = search tests; buffer = refl }
+returns-2 c = record { answer = ap Refused (c .plain2 .ensures) ∙ search tests; buffer = refl }
 
 returns-3 : tie.Need-returns-3
 returns-3 c =
-    let a = c .before .before .before .before .before .args in
+    let a = c .before .before .before .before .before .before .args in
     record {
       answer =
-          rw (
+          ap Refused (c .plain3 .ensures)
+          ∙ rw (
             le-leb (length (a .bytes .now) + around) (length (a .out .now)) (omega arith),
             le-leb (length (a .bytes .now)) longest-data (omega arith),
-            not-true (a .known) (c .if3 .taken),
+            not-true (a .known) (c .before .if3 .taken),
           );
       buffer = refl;
     }
@@ -99,8 +101,11 @@ send-spec =
     tie.close
     (tie.spec
     (λ c. search needs)
+    (λ c κs. search needs)
     returns
+    (λ c κs. search needs)
     returns-2
+    (λ c κs. search needs)
     returns-3
     (λ c. search needs)
     (λ c. search needs)

@@ -69,21 +69,21 @@ module _ (identifier n : ℕ) (before : List ℕ) (h : n ≤ longest-data) (g : 
 returns : tie.Need-returns
 unfolding answered
 returns c =
-    let a = c .before .before .args in
-    wraps (a .identifier) (a .n) (a .out .now) (Refused 2) (a .out .now) (rw (lt-leb (a .n + around) (length (a .out .now)) (omega arith))) refl
+    let a = c .before .before .before .args in
+    wraps (a .identifier) (a .n) (a .out .now) (Refused (c .plain .result)) (a .out .now) (ap Refused (c .plain .ensures) ∙ rw (lt-leb (a .n + around) (length (a .out .now)) (omega arith))) refl
 
 returns-2 : tie.Need-returns-2
 unfolding answered
 returns-2 c =
-    let a = c .before .before .before .args in
-    wraps (a .identifier) (a .n) (a .out .now) (Refused 2) (a .out .now) (rw (lt-leb (a .n + around) (length (a .out .now)) (omega arith))) refl
+    let a = c .before .before .before .before .args in
+    wraps (a .identifier) (a .n) (a .out .now) (Refused (c .plain2 .result)) (a .out .now) (ap Refused (c .plain2 .ensures) ∙ rw (lt-leb (a .n + around) (length (a .out .now)) (omega arith))) refl
 
 returns-3 : tie.Need-returns-3
 unfolding answered
 returns-3 c =
-    let a = c .before .before .before .before .args in
-    wraps (a .identifier) (a .n) (a .out .now) (Refused 4) (a .out .now)
-    (rw (le-leb (a .n + around) (length (a .out .now)) (omega arith), lt-leb (a .n) longest-data (omega arith))) refl
+    let a = c .before .before .before .before .before .args in
+    wraps (a .identifier) (a .n) (a .out .now) (Refused (c .plain3 .result)) (a .out .now)
+    (ap Refused (c .plain3 .ensures) ∙ rw (le-leb (a .n + around) (length (a .out .now)) (omega arith), lt-leb (a .n) longest-data (omega arith))) refl
 
 slice-write-out-2 : tie.Need-slice-write-out-2
 slice-write-out-2 c = simp length-set (omega arith)
@@ -111,9 +111,12 @@ pub wrap-spec : {M : Type 1} → statement M
 wrap-spec =
     tie.close
     (tie.spec
+    (λ c κs. search needs)
     returns
     (λ c. search needs)
+    (λ c κs. search needs)
     returns-2
+    (λ c κs. search needs)
     returns-3
     (λ c. search needs)
     (λ c. search needs)

@@ -18,7 +18,7 @@ model : (c : tie.Else2) → within 1 4 (c .before .before .before .before .args 
 model c = sym (c .before .within .ensures) ∙ not-false _ (c .if2 .left)
 
 returns : tie.Need-returns
-returns c = let e = ne-eqb (length (c .before .before .args .state .now)) state-size (c .if1 .taken) in record { number = rw e refl; state = rw e refl }
+returns c = let e = ne-eqb (length (c .before .before .args .state .now)) state-size (c .if1 .taken) in record { gives = rw e refl; state = rw e refl }
 
 returns-2 : tie.Need-returns-2
 returns-2 c =
@@ -27,7 +27,7 @@ returns-2 c =
     let at-within = at-if2 .before in
     let at-if1 = at-within .before in
     let kind = sym (at-within .within .ensures) ∙ not-true _ (at-if2 .if2 .taken) in
-    record { number = rw (size at-if1, kind) refl; state = rw (size at-if1, kind) (at-put-first .put-first .ensures) }
+    record { gives = rw (size at-if1, kind) refl; state = rw (size at-if1, kind) (at-put-first .put-first .ensures) }
 
 returns-3 : tie.Need-returns-3
 returns-3 c =
@@ -38,7 +38,7 @@ returns-3 c =
     let at-if1 = at-if2 .before .before in
     let kind = model at-if2 in
     let real = sym (at-is-real .is-real .ensures) ∙ not-true _ (at-if3 .if3 .taken) in
-    record { number = rw (size at-if1, kind, real) refl; state = rw (size at-if1, kind, real) (at-put-first2 .put-first2 .ensures) }
+    record { gives = rw (size at-if1, kind, real) refl; state = rw (size at-if1, kind, real) (at-put-first2 .put-first2 .ensures) }
 
 returns-4 : tie.Need-returns-4
 returns-4 c =
@@ -49,7 +49,7 @@ returns-4 c =
     let at-if1 = at-if2 .before .before in
     let kind = model at-if2 in
     let real = sym (at-is-real .is-real .ensures) ∙ not-false _ (at-if3 .if3 .left) in
-    record { number = rw (size at-if1, kind, real) refl; state = rw (size at-if1, kind, real) (at-put-fresh .put-fresh .ensures) }
+    record { gives = rw (size at-if1, kind, real) refl; state = rw (size at-if1, kind, real) (at-put-fresh .put-fresh .ensures) }
 
 pub fresh-spec : {M : Type 1} → statement M
 fresh-spec =

@@ -11,14 +11,14 @@ returns : tie.Need-returns
 unfolding set-clock
 returns c =
     let valid = sym (c .before .valid-state .ensures) ∙ not-true _ (c .if1 .taken) in
-    record { number = rw valid refl; state = rw valid refl }
+    record { gives = rw valid refl; state = rw valid refl }
 
 returns-2 : tie.Need-returns-2
 unfolding set-clock
 returns-2 c =
     let valid = sym (c .before .before .before .valid-state .ensures) ∙ not-false _ (c .before .before .if1 .left) in
     let real = sym (c .before .is-real .ensures) ∙ not-true _ (c .if2 .taken) in
-    record { number = rw (valid, real) refl; state = rw (valid, real) refl }
+    record { gives = rw (valid, real) refl; state = rw (valid, real) refl }
 
 put-clock-requires : tie.Need-put-clock-requires
 put-clock-requires c κs =
@@ -36,7 +36,7 @@ returns-3 c =
     let at-valid-state = at-if1 .before in
     let valid = sym (at-valid-state .valid-state .ensures) ∙ not-false _ (at-if1 .if1 .left) in
     let real = sym (at-is-real .is-real .ensures) ∙ not-false _ (at-if2 .if2 .left) in
-    record { number = rw (valid, real) refl; state = rw (valid, real) (at-put-clock .put-clock .ensures) }
+    record { gives = rw (valid, real) refl; state = rw (valid, real) (at-put-clock .put-clock .ensures) }
 
 pub set-clock-spec : {M : Type 1} → statement M
 set-clock-spec =

@@ -14,7 +14,7 @@ returns : tie.Need-returns
 unfolding tick-clock
 returns c =
     let valid = sym (c .before .valid-state .ensures) ∙ not-true _ (c .if1 .taken) in
-    record { number = rw valid refl; state = rw valid refl }
+    record { gives = rw valid refl; state = rw valid refl }
 
 clock-requires : tie.Need-clock-requires
 clock-requires c κs = valid-size _ (sym (c .before .before .valid-state .ensures) ∙ not-false _ (c .before .if1 .left))
@@ -36,7 +36,7 @@ returns-2 c =
     let at-start = at-valid-state .before .before .before in
     let valid = sym (at-valid-state .valid-state .ensures) ∙ not-false _ (at-if1 .if1 .left) in
     record {
-      number = rw valid refl;
+      gives = rw valid refl;
       state = rw valid (at-put-clock .put-clock .ensures ∙ ap (λ (now : Clock). bytes-of (with-clock (printer-of (at-start .args .state .now)) now)) (at-tick .tick .ensures ∙ ap tick (at-clock .clock .ensures)));
     }
 

@@ -31,7 +31,7 @@ place-in-requires c κs =
     (valid-size _ (at-start .pre .0), at-least (at-start .args .what) (at-start .pre .1))
 
 returns : tie.Need-returns
-returns c = refused (here (not-named (c .before .place-in .ensures) (c .if1 .taken)))
+returns c = refused (c .plain .ensures) (here (not-named (c .before .before .place-in .ensures) (c .before .if1 .taken)))
 
 part-change-jet-end : tie.Need-part-change-jet-end
 part-change-jet-end c = part-inside (jet c)
@@ -55,6 +55,7 @@ change-order-spec =
     tie.close
     (tie.spec
     place-in-requires
+    (λ c κs. search needs)
     (λ c. search needs)
     returns
     (λ c. search needs)

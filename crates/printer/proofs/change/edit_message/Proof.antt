@@ -6,7 +6,7 @@ use Rattle.printer.proofs.change.edit_message.Statement.{statement}
 use Rattle.printer.proofs.change.edit_message.Tie as tie
 
 returns : tie.Need-returns
-returns c = jet-refused (here (denied (c .before .has-message .ensures) (c .if1 .taken)))
+returns c = jet-refused (c .plain .ensures) (here (denied (c .before .before .has-message .ensures) (c .before .if1 .taken)))
 
 returns-2 : tie.Need-returns-2
 returns-2 c =
@@ -20,6 +20,7 @@ pub edit-message-spec : {M : Type 1} → statement M
 edit-message-spec =
     tie.close
     (tie.spec
+    (λ c κs. search needs)
     (λ c κs. search needs)
     (λ c. search needs)
     returns

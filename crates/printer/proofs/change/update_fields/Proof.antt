@@ -2,7 +2,7 @@
 use Prim.Native.Nat.{ℕ, _+_, _-_}
 use mathlib.Core.Bool.{true, false}
 use mathlib.Core.List.{List}
-use mathlib.Core.Path.{_≡_, sym, _∙_, ap₂}
+use mathlib.Core.Path.{_≡_, sym, _∙_, ap, ap₂}
 use native.Mathlib.Omega.{arith}
 use borrow.Author.Needs.{needs}
 use borrow.Author.Tests.{eq-eqb, ne-eqb, lt-ltb, le-ltb}
@@ -10,13 +10,15 @@ use borrow.Rule.Slice.PartMut.{putMid}
 use lib.Dec.{eqb, ltb}
 use lib.ListN.{length, take, drop}
 use lib.Seq.{length-take-le}
+use Rattle.frame.specs.Ground.{placed}
 use Rattle.frame.proofs.Ground.{lent-tail}
 use Rattle.content.specs.Byte.{all-characters}
+use Rattle.content.proofs.Front.{all-in-front, some-other}
 use Rattle.printer.specs.Jet.{Jet, jet-size}
 use Rattle.printer.specs.State.{printer-of}
 use Rattle.printer.specs.Change.{first-of-head, head-positions, positions, updated-jet, update-fields}
 use Rattle.printer.proofs.Valid.{valid-size}
-use Rattle.printer.proofs.Orders.{denied, granted, here, past, end, holds, refused, obeyed}
+use Rattle.printer.proofs.Orders.{here, past, end, holds, refused, obeyed}
 use Rattle.printer.proofs.Part.{Stands, part-inside, part-size, part-jet, part-short}
 use Rattle.printer.proofs.Head.{second-stands, second-short, both-written}
 use Rattle.printer.proofs.change.update_fields.Statement.{statement}
@@ -71,7 +73,9 @@ as-many : (c : tie.Else2) → eqb (length (text-at (c .before .before))) (head-p
 as-many c = eq-eqb _ _ (c .if2 .left ∙ counted (c .before .before))
 
 characters : (c : tie.Else3) → all-characters (text-at (c .before .before .before .before)) ≡ true
-characters c = granted (c .before .all-characters .ensures) (c .if3 .left)
+characters c =
+    let at-if2 = c .before .before in
+    all-in-front (text-at (at-if2 .before .before)) (omega (arith, c .if3 .left, c .before .characters-in-front .ensures, at-if2 .if2 .left))
 
 -- The second jet when the first is written.
 abbrev positions-before : tie.After-update-jet → tie.After-positions2
@@ -112,20 +116,23 @@ positions-requires-2 c κs =
 
 returns : tie.Need-returns
 unfolding update-fields
-returns c = refused (here (none-left (counted (c .before)) (c .if1 .taken)))
+returns c = refused (c .plain .ensures) (here (none-left (counted (c .before .before)) (c .before .if1 .taken)))
 
 returns-2 : tie.Need-returns-2
 unfolding update-fields
 returns-2 c =
-    refused (past (some (c .before))
-    (here (ne-eqb _ _ (λ e. c .if2 .taken (e ∙ sym (counted (c .before .before)))))))
+    let at-if2 = c .before in
+    refused (c .plain2 .ensures) (past (some (at-if2 .before))
+    (here (ne-eqb _ _ (λ e. at-if2 .if2 .taken (e ∙ sym (counted (at-if2 .before .before)))))))
 
 returns-3 : tie.Need-returns-3
 unfolding update-fields
 returns-3 c =
-    let at-if2 = c .before .before in
-    refused (past (some (at-if2 .before)) (past (as-many at-if2)
-    (here (denied (c .before .all-characters .ensures) (c .if3 .taken)))))
+    let at-if3 = c .before in
+    let front = at-if3 .before .characters-in-front .ensures in
+    let at-if2 = at-if3 .before .before in
+    refused (c .placed .ensures ∙ ap (placed 13) front) (past (some (at-if2 .before)) (past (as-many at-if2)
+    (here (some-other (text-at (at-if2 .before .before)) (omega (arith, at-if3 .if3 .taken, front, at-if2 .if2 .left))))))
 
 part-update-jet-end : tie.Need-part-update-jet-end
 part-update-jet-end c =
@@ -161,7 +168,7 @@ update-jet-requires-2 c κs =
 returns-4 : tie.Need-returns-4
 unfolding update-fields
 returns-4 c =
-    let at-update-jet2 = c .before .before in
+    let at-update-jet2 = c .before .before .before in
     let at-update-jet = at-update-jet2 .before .before .before .before .before in
     let at-if3 = at-update-jet .before .before .before in
     let at-if2 = at-if3 .before .before in
@@ -171,7 +178,7 @@ returns-4 c =
     let at-start = at-jet-place .before .before .before .before .before in
     let text = at-start .args .text .now in
     let n = positions (first-of-head (printer-of (at-start .args .state .now))) in
-    obeyed (holds (some (at-if2 .before)) (holds (as-many at-if2) (holds (characters at-if3) end)))
+    obeyed (c .plain3 .ensures) (holds (some (at-if2 .before)) (holds (as-many at-if2) (holds (characters at-if3) end)))
     (both-written (first at-jet-place) (second at-jet-place2) (at-update-jet .update-jet .last .0) (at-update-jet .update-jet .kept .0)
     (λ (j : Jet). updated-jet j (take n text)) (λ (j : Jet). updated-jet j (drop n text))
     (rw (taken at-positions2) at (at-update-jet .update-jet .ensures)) (rw (lent-tail, taken at-positions2) at (at-update-jet2 .update-jet2 .ensures)))
@@ -197,10 +204,13 @@ update-fields-spec =
     part-positions-end-2
     positions-requires-2
     (λ c. search needs)
+    (λ c κs. search needs)
     (λ c. search needs)
     returns
+    (λ c κs. search needs)
     (λ c. search needs)
     returns-2
+    (λ c κs. search needs)
     (λ c κs. search needs)
     (λ c. search needs)
     returns-3
@@ -216,5 +226,6 @@ update-fields-spec =
     (λ c. search needs)
     (λ c. search needs)
     update-jet-requires-2
+    (λ c κs. search needs)
     (λ c. search needs)
     returns-4)

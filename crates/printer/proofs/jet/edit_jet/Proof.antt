@@ -3,7 +3,7 @@ use Prim.Native.Nat.{_+_, _-_}
 use mathlib.Core.Path.{_≡_}
 use borrow.Author.Needs.{needs}
 use borrow.Rule.Slice.PartMut.{putMid}
-use Rattle.content.specs.Edit.{edit-tests, number}
+use Rattle.content.specs.Edit.{edit-tests, given-by}
 use Rattle.content.specs.declared.edit.Edited.{Edited}
 use Rattle.printer.specs.Jet.{message, jet-of}
 use Rattle.printer.specs.Change.{BecomesJet, edited-jet}
@@ -17,7 +17,7 @@ left : (c : tie.After-slice-known2) {x : Edited} → c .before .before .edit .re
     let at-message-length = at-edit .before .before in
     let at-start = at-message-length .before .before .before .before in
     BecomesJet (edit-tests (message (jet-of (at-start .args .jet .now))) (at-start .args .address) (at-start .args .symbols .now))
-    (edited-jet (jet-of (at-start .args .jet .now)) (at-start .args .address) (at-start .args .symbols .now)) (at-start .args .jet .now) (number x)
+    (edited-jet (jet-of (at-start .args .jet .now)) (at-start .args .address) (at-start .args .symbols .now)) (at-start .args .jet .now) (given-by x)
     (putMid 2 (2 + at-message-length .message-length .result - 2) (at-start .args .jet .now) (at-edit .edit .last .0))
 left c told =
     let at-edit = c .before .before in
@@ -32,7 +32,7 @@ left c told =
     told
 
 returns : tie.Need-returns
-returns c = left (c .before .before) (c .enum-told .given .1)
+returns c = rw (c .plain .ensures) (left (c .before .before .before) (c .before .enum-told .given .1))
 
 returns-2 : tie.Need-returns-2
 returns-2 c = left (c .before .before .before) (c .before .answer .given .1)
@@ -48,6 +48,7 @@ edit-jet-spec =
     (λ c. search needs)
     (λ c κs. search needs)
     (λ c. search needs)
+    (λ c κs. search needs)
     (λ c. search needs)
     (λ c. search needs)
     returns

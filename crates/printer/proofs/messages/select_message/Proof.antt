@@ -47,16 +47,18 @@ place-in-requires c κs =
 returns : tie.Need-returns
 unfolding select-message
 returns c =
-    let at-place-in = c .before in
-    refused (here (not-named (at-place-in .place-in .ensures) (c .if1 .taken)))
+    let at-place-in = c .before .before in
+    refused (c .plain .ensures) (here (not-named (at-place-in .place-in .ensures) (c .before .if1 .taken)))
 
 returns-2 : tie.Need-returns-2
 unfolding select-message
 returns-2 c =
-    let at-if1 = c .before .before .before in
+    let at-if2 = c .before in
+    let at-body = at-if2 .before in
+    let at-if1 = at-body .before .before in
     let at-place-in = at-if1 .before in
     let at-start = at-place-in .before .before .before .before .before in
-    refused (past (named (at-place-in .place-in .ensures) (at-if1 .if1 .left)) (here (none-there (at-start .args .store .now) (selected-number (at-start .args .d .now)) (at-start .pre .1) (sym (ap length (c .before .body .ensures)) ∙ c .if2 .taken))))
+    refused (c .plain2 .ensures) (past (named (at-place-in .place-in .ensures) (at-if1 .if1 .left)) (here (none-there (at-start .args .store .now) (selected-number (at-start .args .d .now)) (at-start .pre .1) (sym (ap length (at-body .body .ensures)) ∙ at-if2 .if2 .taken))))
 
 part-put-both-end : tie.Need-part-put-both-end
 part-put-both-end c = part-inside (jet c)
@@ -81,7 +83,7 @@ put-both-requires c κs =
 returns-3 : tie.Need-returns-3
 unfolding select-message
 returns-3 c =
-    let at-put-both = c .before .before in
+    let at-put-both = c .before .before .before in
     let at-if2 = at-put-both .before .before .before .before in
     let at-body = at-if2 .before in
     let at-if1 = at-body .before .before in
@@ -91,7 +93,7 @@ returns-3 c =
     let body = at-body .body .result .now in
     let part = jet-of (midOf (at-place-in .place-in .result) (at-place-in .place-in .result + jet-size - at-place-in .place-in .result) (at-start .args .state .now)) in
     let none : length body ≡ 0 → ⊥ = at-if2 .if2 .left in
-    obeyed (holds (named (at-place-in .place-in .ensures) (at-if1 .if1 .left)) (holds (some-there (at-start .args .store .now) (selected-number (at-start .args .d .now)) (at-start .pre .1) (λ z. none (ap length (at-body .body .ensures) ∙ z))) end))
+    obeyed (c .plain3 .ensures) (holds (named (at-place-in .place-in .ensures) (at-if1 .if1 .left)) (holds (some-there (at-start .args .store .now) (selected-number (at-start .args .d .now)) (at-start .pre .1) (λ z. none (ap length (at-body .body .ensures) ∙ z))) end))
     (part-written j (λ (x : Jet). selected-jet x (selected-body (at-start .args .store .now) (at-start .args .d .now)))
     (at-put-both .put-both .ensures
     ∙ ap (λ (l : List ℕ). jet-bytes (with-both part (take 37 body) l)) (lent-tail 37 body)
@@ -102,9 +104,11 @@ select-message-spec =
     tie.close
     (tie.spec
     place-in-requires
+    (λ c κs. search needs)
     (λ c. search needs)
     returns
     (λ c. search needs)
+    (λ c κs. search needs)
     (λ c κs. search needs)
     (λ c. search needs)
     returns-2
@@ -117,5 +121,6 @@ select-message-spec =
     part-put-both-start-2
     (λ c. search needs)
     put-both-requires
+    (λ c κs. search needs)
     (λ c. search needs)
     returns-3)

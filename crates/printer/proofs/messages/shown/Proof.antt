@@ -25,7 +25,7 @@ returns : tie.Need-returns
 returns c =
     let at-if1 = c .before in
     let at-valid-store = at-if1 .before in
-    record { number = rw (denied (at-valid-store .valid-store .ensures) (at-if1 .if1 .taken)); bytes = rw (denied (at-valid-store .valid-store .ensures) (at-if1 .if1 .taken)) }
+    record { gives = rw (denied (at-valid-store .valid-store .ensures) (at-if1 .if1 .taken)); bytes = rw (denied (at-valid-store .valid-store .ensures) (at-if1 .if1 .taken)) }
 
 returns-2 : tie.Need-returns-2
 returns-2 c =
@@ -33,7 +33,7 @@ returns-2 c =
     let at-is-number = at-if2 .before in
     let at-if1 = at-is-number .before in
     let at-valid-store = at-if1 .before in
-    record { number = rw (granted (at-valid-store .valid-store .ensures) (at-if1 .if1 .left), denied (at-is-number .is-number .ensures) (at-if2 .if2 .taken)); bytes = rw (granted (at-valid-store .valid-store .ensures) (at-if1 .if1 .left), denied (at-is-number .is-number .ensures) (at-if2 .if2 .taken)) }
+    record { gives = rw (granted (at-valid-store .valid-store .ensures) (at-if1 .if1 .left), denied (at-is-number .is-number .ensures) (at-if2 .if2 .taken)); bytes = rw (granted (at-valid-store .valid-store .ensures) (at-if1 .if1 .left), denied (at-is-number .is-number .ensures) (at-if2 .if2 .taken)) }
 
 returns-3 : tie.Need-returns-3
 returns-3 c =
@@ -43,7 +43,7 @@ returns-3 c =
     let at-if1 = at-is-number .before in
     let at-valid-store = at-if1 .before in
     let s = at-valid-store .before .before .before in
-    let v = granted (at-valid-store .valid-store .ensures) (at-if1 .if1 .left) in record { number = rw (v, granted (at-is-number .is-number .ensures) (at-if2 .if2 .left)); bytes = rw (v, granted (at-is-number .is-number .ensures) (at-if2 .if2 .left), held-none (s .args .store .now) (s .args .n) v (sym (ap length (at-body .body .ensures)) ∙ c .if3 .taken)) }
+    let v = granted (at-valid-store .valid-store .ensures) (at-if1 .if1 .left) in record { gives = rw (v, granted (at-is-number .is-number .ensures) (at-if2 .if2 .left)); bytes = rw (v, granted (at-is-number .is-number .ensures) (at-if2 .if2 .left), held-none (s .args .store .now) (s .args .n) v (sym (ap length (at-body .body .ensures)) ∙ c .if3 .taken)) }
 
 sub-result : tie.Need-sub-result
 sub-result c = let g = good c in omega (arith, g .long)
@@ -60,7 +60,7 @@ returns-4 c =
     let at-if1 = at-is-number .before in
     let at-valid-store = at-if1 .before in
     let s = at-valid-store .before .before .before in
-    let v = granted (at-valid-store .valid-store .ensures) (at-if1 .if1 .left) in let none : length (at-body .body .result .now) ≡ 0 → ⊥ = at-if3 .if3 .left in record { number = rw (v, granted (at-is-number .is-number .ensures) (at-if2 .if2 .left)); bytes = rw (v, granted (at-is-number .is-number .ensures) (at-if2 .if2 .left), some-held (s .args .n) (records (s .args .store .now)) (λ z. none (ap length (at-body .body .ensures) ∙ z))) (lent-tail 37 (at-body .body .result .now) ∙ ap body-content (at-body .body .ensures)) }
+    let v = granted (at-valid-store .valid-store .ensures) (at-if1 .if1 .left) in let none : length (at-body .body .result .now) ≡ 0 → ⊥ = at-if3 .if3 .left in record { gives = rw (v, granted (at-is-number .is-number .ensures) (at-if2 .if2 .left)); bytes = rw (v, granted (at-is-number .is-number .ensures) (at-if2 .if2 .left), some-held (s .args .n) (records (s .args .store .now)) (λ z. none (ap length (at-body .body .ensures) ∙ z))) (lent-tail 37 (at-body .body .result .now) ∙ ap body-content (at-body .body .ensures)) }
 
 pub shown-spec : {M : Type 1} → statement M
 shown-spec =

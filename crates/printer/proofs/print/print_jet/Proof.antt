@@ -8,6 +8,7 @@ use borrow.Author.Tests.{le-leb}
 use lib.ListN.{length, length-take}
 use Rattle.content.specs.Strip.{Puts, stripped}
 use Rattle.frame.specs.declared.build.Built.{Built}
+use Rattle.frame.specs.declared.given.Given.{Given}
 use Rattle.frame.specs.declared.build.Built.the-variants.{Refused, Written}
 use Rattle.content.specs.declared.strip.Values.{Values}
 use Rattle.content.proofs.Room.{strip-fits}
@@ -39,7 +40,7 @@ module _ (es : List ℕ) (j : Jet) {v : Values} {s before after : List ℕ} {r :
         bytes = p .buffer ∙ rw (told, e, q);
       }
 
-  never-refused : {k : ℕ} → r ≡ Refused k → ⊥
+  never-refused : {g : Given} → r ≡ Refused g → ⊥
   never-refused w = let z : _≡_ {A = ℕ} 0 1 = cc told in omega arith
 
 returns : tie.Need-returns

@@ -95,31 +95,31 @@ returns c =
 returns-2 : tie.Need-returns-2
 returns-2 c =
     let at-settle = c .before .before in
-    let at-found = at-settle .before .before .before in
+    let at-found = at-settle .before .before .before .before in
     let at-receive = at-found .before .before in
     let at-start = at-receive .before .before .before .before .before .before in
     heard (at-start .args .state .now) (at-start .args .store .now) (at-start .args .s .now) (at-receive .receive .ensures .answer) (at-found .found .given .1)
-    (record { meets = meets-refusal (printer-of (at-start .args .state .now)) (at-start .args .state .now) (at-start .args .strips .now) (refused-number (at-start .args .s .now) (sym (at-receive .receive .ensures .answer) ∙ at-found .found .given .1)) (one-byte _ (at-start .args .answer .now) (omega arith)) (at-settle .settle .ensures); stores = refl })
+    (record { meets = meets-refusal (printer-of (at-start .args .state .now)) (at-start .args .state .now) (at-start .args .strips .now) (refused-number (at-start .args .s .now) (sym (at-receive .receive .ensures .answer) ∙ at-found .found .given .1)) (one-byte _ (at-start .args .answer .now) (omega arith)) (rw (at-settle .before .before .plain .ensures) at (at-settle .settle .ensures)); stores = refl })
 
 returns-3 : tie.Need-returns-3
 returns-3 c =
     let at-settle2 = c .before .before in
-    let at-found2 = at-settle2 .before .before .before in
+    let at-found2 = at-settle2 .before .before .before .before in
     let at-receive = at-found2 .before .before in
     let at-start = at-receive .before .before .before .before .before .before in
     heard (at-start .args .state .now) (at-start .args .store .now) (at-start .args .s .now) (at-receive .receive .ensures .answer) (at-found2 .found2 .given .1)
-    (record { meets = meets-refusal (printer-of (at-start .args .state .now)) (at-start .args .state .now) (at-start .args .strips .now) (misfit-number (at-start .args .s .now) (sym (at-receive .receive .ensures .answer) ∙ at-found2 .found2 .given .1)) (one-byte _ (at-start .args .answer .now) (omega arith)) (at-settle2 .settle2 .ensures); stores = refl })
+    (record { meets = meets-refusal (printer-of (at-start .args .state .now)) (at-start .args .state .now) (at-start .args .strips .now) (misfit-number (at-start .args .s .now) (sym (at-receive .receive .ensures .answer) ∙ at-found2 .found2 .given .1)) (one-byte _ (at-start .args .answer .now) (omega arith)) (rw (at-settle2 .before .before .plain2 .ensures) at (at-settle2 .settle2 .ensures)); stores = refl })
 
 returns-4 : tie.Need-returns-4
 returns-4 c =
     let at-settle3 = c .before .before in
-    let at-enum-told2 = at-settle3 .before .before in
+    let at-enum-told2 = at-settle3 .before .before .before in
     let at-receive = at-enum-told2 .before .before in
     let at-slice-known = at-receive .before .before .before .before .before in
     let at-start = at-slice-known .before in
     heard (at-start .args .state .now) (at-start .args .store .now) (at-start .args .s .now) (at-receive .receive .ensures .answer) (at-enum-told2 .enum-told2 .given .1)
     (fulfils-obeyed (printer-of (at-start .args .state .now)) (enquire (printer-of (at-start .args .state .now))) 1 (at-start .args .store .now) refl
-    (meets-changed (printer-of (at-start .args .state .now)) (enquire (printer-of (at-start .args .state .now))) (at-start .args .strips .now) (enquiry-changes (printer-of (at-start .args .state .now))) (omega arith) (record { number = refl; state = sym (state-back (at-start .args .state .now) (valid-size (at-start .args .state .now) (at-start .pre .0)) (at-slice-known .slice-known .given)) }) (at-settle3 .settle3 .ensures)))
+    (meets-changed (printer-of (at-start .args .state .now)) (enquire (printer-of (at-start .args .state .now))) (at-start .args .strips .now) (enquiry-changes (printer-of (at-start .args .state .now))) (omega arith) (record { gives = at-settle3 .before .before .plain3 .ensures; state = sym (state-back (at-start .args .state .now) (valid-size (at-start .args .state .now) (at-start .pre .0)) (at-slice-known .slice-known .given)) }) (at-settle3 .settle3 .ensures)))
 
 returns-5 : tie.Need-returns-5
 returns-5 c =
@@ -152,9 +152,12 @@ handle-spec =
     (λ c κs. search needs)
     (λ c. search needs)
     (λ c κs. search needs)
-    (λ c. search needs)
     (λ c κs. search needs)
     (λ c. search needs)
+    (λ c κs. search needs)
+    (λ c κs. search needs)
+    (λ c. search needs)
+    (λ c κs. search needs)
     (λ c κs. search needs)
     (λ c. search needs)
     add-update-fields

@@ -8,8 +8,10 @@ use borrow.Author.Needs.{needs}
 use borrow.Author.Tests.{leb-true}
 use borrow.Rule.Slice.PartMut.{midOf, putMid}
 use lib.ListN.{length, length-drop}
+use Rattle.frame.specs.Ground.{plain}
 use Rattle.frame.specs.Wire.{size-of}
 use Rattle.frame.proofs.Ground.{tests, lent-tail}
+use Rattle.frame.specs.declared.given.Given.{Given}
 use Rattle.printer.specs.State.{Printer, printer-of, valid-state}
 use Rattle.printer.specs.Order.{Order, Obeys}
 use Rattle.printer.specs.Change.{set-message, set-parameters, set-both, edit-message}
@@ -28,8 +30,8 @@ use Rattle.printer.proofs.receive.obey_printer.Statement.{statement}
 use Rattle.printer.proofs.receive.obey_printer.Tie as tie
 
 -- The order of a row.
-changed : (m : List ℕ) {identifier : ℕ} (k : ℕ) (d : List ℕ) {number consumed : ℕ} {answer : List ℕ} (strips : List ℕ) {a : Answered} {m′ answer′ : List ℕ} → identifier ≡ k
-    → Changes (printer-order (printer-of m) k d) → 554 ≤ length answer → Obeys (printer-order (printer-of m) k d) m number m′ → Settles number consumed 0 answer a answer′
+changed : (m : List ℕ) {identifier : ℕ} (k : ℕ) (d : List ℕ) {g : Given} {consumed : ℕ} {answer : List ℕ} (strips : List ℕ) {a : Answered} {m′ answer′ : List ℕ} → identifier ≡ k
+    → Changes (printer-order (printer-of m) k d) → 554 ≤ length answer → Obeys (printer-order (printer-of m) k d) m g m′ → Settles g consumed 0 answer a answer′
     → Meets (obeyed (printer-of m) (printer-order (printer-of m) identifier d) consumed) m answer strips a m′ answer′ strips
 changed m k d {consumed = consumed} strips e x h o s =
     meets-same (ap (λ (i : ℕ). obeyed (printer-of m) (printer-order (printer-of m) i d) consumed) e)
@@ -37,11 +39,11 @@ changed m k d {consumed = consumed} strips e x h o s =
 
 asked : (m : List ℕ) (identifier k : ℕ) (d : List ℕ) {consumed : ℕ} {answer : List ℕ} (strips : List ℕ) {t : Told} {last : List ℕ} {a : Answered} {answer′ : List ℕ}
     → printer-order (printer-of m) identifier d ≡ printer-order (printer-of m) k d → Asks (printer-of m) (printer-order (printer-of m) k d) → valid-state m ≡ true → Bytes m → 554 ≤ length answer
-    → TellsOrder (printer-order (printer-of m) k d) (midOf 1 (length answer - 1) answer) t last → Settles (t .number) consumed (t .size) (putMid 1 (length answer - 1) answer last) a answer′
+    → TellsOrder (printer-order (printer-of m) k d) (midOf 1 (length answer - 1) answer) t last → {g : Given} → g ≡ plain (t .number) → Settles g consumed (t .size) (putMid 1 (length answer - 1) answer last) a answer′
     → Meets (obeyed (printer-of m) (printer-order (printer-of m) identifier d) consumed) m answer strips a m answer′ strips
-asked m identifier k d {consumed = consumed} strips e x v f h o s =
+asked m identifier k d {consumed = consumed} strips e x v f h o n s =
     meets-same (ap (λ (o : Order). obeyed (printer-of m) o consumed) e)
-    (meets-told (printer-of m) (printer-order (printer-of m) k d) strips x (state-back m (valid-size m v) f) (omega arith) o s)
+    (meets-told (printer-of m) (printer-order (printer-of m) k d) strips x (state-back m (valid-size m v) f) (omega arith) o (rw n at s))
 
 at-row : (p : Printer) {identifier : ℕ} (k : ℕ) (d : List ℕ) → identifier ≡ k → printer-order p identifier d ≡ printer-order p k d
 at-row p k d e = ap (λ (i : ℕ). printer-order p i d) e
@@ -113,7 +115,7 @@ request-order-requires c κs =
 
 settle-requires-4 : tie.Need-settle-requires-4
 settle-requires-4 c κs =
-    let at-answer4 = c .before .before in
+    let at-answer4 = c .before .before .before in
     let at-request-order = at-answer4 .before in
     let at-if1 = at-request-order .before .before .before .before .before .before in
     let at-start = at-if1 .before .before .before .before .before in
@@ -123,13 +125,13 @@ returns-4 : tie.Need-returns-4
 unfolding printer-order ask-counter
 returns-4 c =
     let at-settle4 = c .before .before in
-    let at-request-order = at-settle4 .before .before .before .before in
+    let at-request-order = at-settle4 .before .before .before .before .before in
     let at-if4 = at-request-order .before .before .before in
     let at-slice-known = at-if4 .before .before .before .before .before .before .before in
     let at-start = at-slice-known .before in
     asked (at-start .args .state .now) (at-start .args .identifier) 0x39 (at-start .args .d .now) (at-start .args .strips .now)
     (at-row (printer-of (at-start .args .state .now)) 0x39 (at-start .args .d .now) (at-if4 .if4 .taken)) (request-asks request.Counter (printer-of (at-start .args .state .now)) (at-start .args .d .now)) (at-start .pre .0) (at-slice-known .slice-known .given) (at-start .pre .1)
-    (at-request-order .request-order .ensures) (at-settle4 .settle4 .ensures)
+    (at-request-order .request-order .ensures) (at-settle4 .before .before .plain .ensures) (at-settle4 .settle4 .ensures)
 
 change-order-requires-4 : tie.Need-change-order-requires-4
 unfolding size-of
@@ -159,7 +161,7 @@ request-order-requires-2 c κs =
 
 settle-requires-6 : tie.Need-settle-requires-6
 settle-requires-6 c κs =
-    let at-answer7 = c .before .before in
+    let at-answer7 = c .before .before .before in
     let at-request-order2 = at-answer7 .before in
     let at-if3 = at-request-order2 .before .before .before .before .before .before in
     let at-start = at-if3 .before .before .before .before .before .before .before in
@@ -169,18 +171,18 @@ returns-6 : tie.Need-returns-6
 unfolding printer-order ask-message
 returns-6 c =
     let at-settle6 = c .before .before in
-    let at-request-order2 = at-settle6 .before .before .before .before in
+    let at-request-order2 = at-settle6 .before .before .before .before .before in
     let at-if6 = at-request-order2 .before .before .before in
     let at-if1 = at-if6 .before .before .before .before .before in
     let at-slice-known = at-if1 .before .before .before .before in
     let at-start = at-slice-known .before in
     asked (at-start .args .state .now) (at-start .args .identifier) 0x43 (at-start .args .d .now) (at-start .args .strips .now)
     (at-row (printer-of (at-start .args .state .now)) 0x43 (at-start .args .d .now) (at-if6 .if6 .taken)) (request-asks request.Message (printer-of (at-start .args .state .now)) (at-start .args .d .now)) (at-start .pre .0) (at-slice-known .slice-known .given) (at-start .pre .1)
-    (at-request-order2 .request-order2 .ensures) (at-settle6 .settle6 .ensures)
+    (at-request-order2 .request-order2 .ensures) (at-settle6 .before .before .plain2 .ensures) (at-settle6 .settle6 .ensures)
 
 settle-requires-7 : tie.Need-settle-requires-7
 settle-requires-7 c κs =
-    let at-answer9 = c .before .before in
+    let at-answer9 = c .before .before .before in
     let at-ask-table = at-answer9 .before in
     let at-if3 = at-ask-table .before .before .before .before .before .before in
     let at-start = at-if3 .before .before .before .before .before .before .before in
@@ -190,14 +192,14 @@ returns-7 : tie.Need-returns-7
 unfolding printer-order ask-table
 returns-7 c =
     let at-settle7 = c .before .before in
-    let at-ask-table = at-settle7 .before .before .before .before in
+    let at-ask-table = at-settle7 .before .before .before .before .before in
     let at-if7 = at-ask-table .before .before in
     let at-if1 = at-if7 .before .before .before .before .before .before in
     let at-slice-known = at-if1 .before .before .before .before in
     let at-start = at-slice-known .before in
     asked (at-start .args .state .now) (at-start .args .identifier) 0x52 (at-start .args .d .now) (at-start .args .strips .now)
     (at-row (printer-of (at-start .args .state .now)) 0x52 (at-start .args .d .now) (at-if7 .if7 .taken)) (table-asks _) (at-start .pre .0) (at-slice-known .slice-known .given) (at-start .pre .1)
-    (at-ask-table .ask-table .ensures) (at-settle7 .settle7 .ensures)
+    (at-ask-table .ask-table .ensures) (at-settle7 .before .before .plain3 .ensures) (at-settle7 .settle7 .ensures)
 
 returns-8 : tie.Need-returns-8
 unfolding printer-order
@@ -211,7 +213,7 @@ returns-8 c =
 
 settle-requires-8 : tie.Need-settle-requires-8
 settle-requires-8 c κs =
-    let at-answer12 = c .before .before in
+    let at-answer12 = c .before .before .before in
     let at-ask-clock = at-answer12 .before in
     let at-if5 = at-ask-clock .before .before .before .before .before .before in
     let at-if1 = at-if5 .before .before .before .before in
@@ -222,7 +224,7 @@ returns-9 : tie.Need-returns-9
 unfolding printer-order ask-clock
 returns-9 c =
     let at-settle8 = c .before .before in
-    let at-ask-clock = at-settle8 .before .before .before .before in
+    let at-ask-clock = at-settle8 .before .before .before .before .before in
     let at-if8 = at-ask-clock .before .before .before in
     let at-if7 = at-if8 .before in
     let at-if6 = at-if7 .before in
@@ -235,7 +237,7 @@ returns-9 c =
     let at-start = at-slice-known .before in
     asked (at-start .args .state .now) (at-start .args .identifier) 0xD6 (at-start .args .d .now) (at-start .args .strips .now)
     (last-row (printer-of (at-start .args .state .now)) (at-start .args .identifier) (at-start .args .d .now) (at-if1 .if1 .left) (at-if2 .if2 .left) (at-if3 .if3 .left) (at-if4 .if4 .left) (at-if5 .if5 .left) (at-if6 .if6 .left) (at-if7 .if7 .left) (at-if8 .if8 .left)) (clock-asks _) (at-start .pre .0) (at-slice-known .slice-known .given) (at-start .pre .1)
-    (at-ask-clock .ask-clock .ensures) (at-settle8 .settle8 .ensures)
+    (at-ask-clock .ask-clock .ensures) (at-settle8 .before .before .plain4 .ensures) (at-settle8 .settle8 .ensures)
 
 pub obey-printer-spec : {M : Type 1} → statement M
 obey-printer-spec =
@@ -260,6 +262,7 @@ obey-printer-spec =
     (λ c. search needs)
     (λ c. search needs)
     request-order-requires
+    (λ c κs. search needs)
     settle-requires-4
     (λ c. search needs)
     (λ c. search needs)
@@ -273,6 +276,7 @@ obey-printer-spec =
     (λ c. search needs)
     (λ c. search needs)
     request-order-requires-2
+    (λ c κs. search needs)
     settle-requires-6
     (λ c. search needs)
     (λ c. search needs)
@@ -280,6 +284,7 @@ obey-printer-spec =
     (λ c. search needs)
     (λ c. search needs)
     (λ c. search needs)
+    (λ c κs. search needs)
     (λ c κs. search needs)
     settle-requires-7
     (λ c. search needs)
@@ -292,6 +297,7 @@ obey-printer-spec =
     (λ c. search needs)
     (λ c. search needs)
     (λ c. search needs)
+    (λ c κs. search needs)
     (λ c κs. search needs)
     settle-requires-8
     (λ c. search needs)
