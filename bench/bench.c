@@ -36,6 +36,7 @@ static __attribute__((noinline)) void perform(int what)
     case 4: api_test(in, n_in); break;
     case 5: api_build(strips, sizeof strips, 0x0A, in, n_in); break;
     case 6: api_shown(store, sizeof store, in, n_in, asked); break;
+    case 7: api_set_date_change(&box); break;
     default: break;
     }
 }
@@ -111,6 +112,7 @@ static void alone(void)     // the calls that are lent no store
     size n;
     again(); measure("tick", 1);
     again(); measure("set_clock", 2);
+    again(); measure("set_date_change", 7);
     again(); measure("fresh", 3);
     n = plain(in); n_in = n; measure("test-512", 4);
     n = mixed(in); n_in = n; measure("test-512-mixed", 4);
@@ -147,6 +149,7 @@ static void with_store(void)
     again(); d[0] = 1; frame(0x43, d, 1); measure("43", 0);
     again(); frame(0x52, d, 0); measure("52", 0);
     again(); frame(0x94, d, 0); measure("94", 0);
+    again(); api_night(&box); frame(0x94, d, 0); measure("94-night", 0);
     again(); frame(0xD6, d, 0); measure("D6", 0);
     // head 1 has 960 field positions in one of the states and 64 in another: elsewhere these get 18, or 11 where there is none
     again(); update(1022); measure("update-1022", 0);

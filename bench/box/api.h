@@ -1,8 +1,9 @@
 // How C calls the proved box. The compiler hands every struct and slice by its address, a result that is a struct to the
 // address that comes first, and lays all of them out as on a 64-bit machine: usize has 64 bits also on Arm, and so has the
 // room of a slice's address.
-enum { STATE = 2243 };                          // printer::state::STATE
+enum { STATE = 2245 };                          // printer::state::STATE
 struct clock { u8 second, minute, hour, day, month, year; };
+struct time { u8 hour, minute; };               // calendar::date_change::TimeOfDay
 struct where { u8 tag; u64 at; };               // frame::given::Where: Nowhere, At(at)
 struct given { u8 number; struct where place; };
 struct answered { u8 number; struct where place; u64 consumed, answer, strips[4]; };
@@ -12,6 +13,7 @@ struct box { u8 state[STATE]; };
 
 u8 box_fresh(const struct slice *state, u8 model, const struct clock *);
 u8 box_set_clock(const struct slice *state, const struct clock *);
+u8 box_set_date_change(const struct slice *state, const struct time *);
 u8 box_tick(const struct slice *state);
 void box_receive(struct answered *, const struct slice *state, const struct slice *store, const struct slice *s, const struct slice *answer, const struct slice *strips);
 void box_shown(struct slice *, const struct slice *store, const struct slice *current, u8 n, u8 *refused);
@@ -20,7 +22,8 @@ void box_build(struct built *, const struct slice *out, u8 identifier, const str
 
 static struct answered got; static struct given tested; static struct built made; static u64 number; static long place; static const u8 *shown; static size shown_n;
 static struct slice s0, s1, s2, s3, s4;
-static const struct clock CLOCK = {58, 59, 23, 29, 2, 24};
+static const struct clock CLOCK = {58, 59, 23, 29, 2, 24}, NIGHT = {0, 0, 1, 1, 3, 24};
+static const struct time CHANGE = {6, 30};
 static inline const struct slice *lend(struct slice *s, const u8 *p, u64 n) { s->room = 0; s->p = p; s->n = n; return s; }
 static inline void say(u8 n, const struct where *w) { number = n; place = w && w->tag ? (long)w->at : -1; }
 static inline u64 api_number(void) { return number; }
@@ -33,6 +36,8 @@ static inline void api_shown(u8 *r, size rn, u8 *s, size n, u8 k)
 static inline void api_fresh(struct box *b, u8 model) { say(box_fresh(lend(&s0, b->state, STATE), model, &CLOCK), 0); }
 static inline void api_tick(struct box *b) { say(box_tick(lend(&s0, b->state, STATE)), 0); }
 static inline void api_set_clock(struct box *b) { say(box_set_clock(lend(&s0, b->state, STATE), &CLOCK), 0); }
+static inline void api_set_date_change(struct box *b) { say(box_set_date_change(lend(&s0, b->state, STATE), &CHANGE), 0); }
+static inline void api_night(struct box *b) { box_set_clock(lend(&s0, b->state, STATE), &NIGHT); api_set_date_change(b); }
 static inline void api_test(u8 *s, size n) { box_test(&tested, lend(&s1, s, n)); say(tested.number, &tested.place); }
 static inline void api_build(u8 *o, size on, u8 id, u8 *s, size n)
 { box_build(&made, lend(&s1, o, on), id, lend(&s2, s, n)); if (made.tag == 1) say(0, 0); else say(made.given.number, &made.given.place); }

@@ -12,7 +12,7 @@ use Rattle.frame.specs.Ground.{pick, within}
 use Rattle.frame.proofs.Ground.{both-true, true-both, true-within, pick-case}
 use Rattle.content.specs.Byte.{is-character}
 use Rattle.content.specs.StripLaws.{printable}
-use Rattle.calendar.specs.Clock.{clock-text, date, days-in, entries, entry, is-leap, month-entry, months, next-date, next-hour, next-minute, next-month, next-year, no-entry, table-text, tick}
+use Rattle.calendar.specs.Clock.{clock-text, date, days-in, entries, entry, is-leap, month-entry, months, next-date, next-hour, next-minute, next-month, next-year, no-entry, tick}
 use Rattle.calendar.specs.ClockLaws.{EntriesPlaced, EntriesPrint, EntriesSample, EntryPrints, TextsLong, TickReal, TimeSamples}
 use Rattle.calendar.specs.declared.clock.Clock.{Clock}
 use Rattle.calendar.specs.declared.clock.Date.{Date}
@@ -20,7 +20,7 @@ use Rattle.calendar.proofs.Moments.{Dated, Real, moment-entries, month-
 
 -- ---- A real moment and the next.
 -- No month is without a first day.
-first-day : (month year : ℕ) → 1 ≤ days-in month year
+pub first-day : (month year : ℕ) → 1 ≤ days-in month year
 unfolding days-in
 first-day month year =
     pick-case P (eqb month 2) _ _ (λ _. pick-case P (is-leap year) _ _ (λ _. omega arith) (λ _. omega arith))
@@ -74,7 +74,7 @@ module _ (c : Clock) (r : Real c) where
       record { second = omega arith; minute = omega arith; hour = r .hour; date = r .date })
       (λ _. hour-real)
 
-  second-real : Real (tick c)
+  pub second-real : Real (tick c)
   unfolding tick
   second-real =
       pick-case Real (ltb (c .second) 59) _ _
@@ -144,11 +144,8 @@ entries-placed c =
     rw (← moment-entries c month long refl) (refl, refl, three month long, refl)
 
 pub texts-long : TextsLong
-unfolding entries clock-text table-text
-texts-long = (
-  (λ c. let m = month-long (c .date .month) in (simp length-append (omega arith), simp length-append (omega arith))),
-  refl,
-)
+unfolding entries clock-text
+texts-long c = let m = month-long (c .date .month) in (simp length-append (omega arith), simp length-append (omega arith))
 
 -- ---- The samples, computed.
 pub time-samples : TimeSamples

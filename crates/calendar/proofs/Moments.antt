@@ -25,35 +25,43 @@ pub record Real (c : Clock) : Type 0 where
   pub hour : c .hour ≤ 23
   pub date : Dated (c .date)
 
+pub dated-tells : (d : Date) → is-date d ≡ true → Dated d
+unfolding is-date
+dated-tells d e =
+    let m = both-true _ _ e in
+    let n = both-true _ _ (m .1) in
+    record {
+      month = within-true 1 12 (d .month) (m .0);
+      day = within-true 1 (days-in (d .month) (d .year)) (d .day) (n .0);
+      year = leb-true (d .year) 99 (n .1);
+    }
+
+pub tells-dated : (d : Date) → Dated d → is-date d ≡ true
+unfolding is-date
+tells-dated d r =
+    true-both _ _ (true-within 1 12 (d .month) (r .month .0) (r .month .1))
+    (true-both _ _ (true-within 1 (days-in (d .month) (d .year)) (d .day) (r .day .0) (r .day .1))
+    (le-leb (d .year) 99 (r .year)))
+
 pub real-tells : (c : Clock) → is-real c ≡ true → Real c
-unfolding is-real is-date
+unfolding is-real
 real-tells c e =
     let s = both-true _ _ e in
     let m = both-true _ _ (s .1) in
     let h = both-true _ _ (m .1) in
-    let n = both-true _ _ (h .1) in
-    let d = both-true _ _ (n .1) in
     record {
       second = leb-true (c .second) 59 (s .0);
       minute = leb-true (c .minute) 59 (m .0);
       hour = leb-true (c .hour) 23 (h .0);
-      date = record {
-        month = within-true 1 12 (c .date .month) (n .0);
-        day = within-true 1 (days-in (c .date .month) (c .date .year)) (c .date .day) (d .0);
-        year = leb-true (c .date .year) 99 (d .1);
-      };
+      date = dated-tells (c .date) (h .1);
     }
 
 pub tells-real : (c : Clock) → Real c → is-real c ≡ true
-unfolding is-real is-date
+unfolding is-real
 tells-real c r =
-    let d = r .date in
     true-both _ _ (le-leb (c .second) 59 (r .second))
     (true-both _ _ (le-leb (c .minute) 59 (r .minute))
-    (true-both _ _ (le-leb (c .hour) 23 (r .hour))
-    (true-both _ _ (true-within 1 12 (c .date .month) (d .month .0) (d .month .1))
-    (true-both _ _ (true-within 1 (days-in (c .date .month) (c .date .year)) (c .date .day) (d .day .0) (d .day .1))
-    (le-leb (c .date .year) 99 (d .year))))))
+    (true-both _ _ (le-leb (c .hour) 23 (r .hour)) (tells-dated (c .date) (r .date))))
 
 -- ---- The texts of a moment.
 pub month-long : (month : ℕ) → length (month-entry month) ≡ 3

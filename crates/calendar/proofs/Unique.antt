@@ -1,6 +1,6 @@
 -- No second outcome meets a contract of `calendar`: both are what the rule says.
 use mathlib.Core.Path.{sym, _∙_}
-use Rattle.calendar.specs.Unique.{DateOfUnique, MomentUnique, ClockIsRealUnique, ClockTickUnique, EntriesUnique, ClockTextUnique}
+use Rattle.calendar.specs.Unique.{DateOfUnique, MomentUnique, ClockIsRealUnique, ClockTickUnique, EntriesUnique, ClockTextUnique, TimeOfDayUnique, IsTimeUnique, ChangeTextUnique, PrintedUnique}
 
 pub date-of-unique : DateOfUnique
 date-of-unique day month year r r′ p q = p ∙ sym q
@@ -19,3 +19,15 @@ entries-unique c r r′ p q = p ∙ sym q
 
 pub clock-text-unique : ClockTextUnique
 clock-text-unique c r r′ p q = p ∙ sym q
+
+pub time-of-day-unique : TimeOfDayUnique
+time-of-day-unique hour minute r r′ p q = p ∙ sym q
+
+pub is-time-unique : IsTimeUnique
+is-time-unique t r r′ p q = p ∙ sym q
+
+pub change-text-unique : ChangeTextUnique
+change-text-unique t r r′ p q = p ∙ sym q
+
+pub printed-unique : PrintedUnique
+printed-unique t c r r′ p q = p ∙ sym q

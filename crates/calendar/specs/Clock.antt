@@ -45,6 +45,17 @@ unfoldable pub next-date : Date → Date
 next-date d =
     pick (ltb (d .day) (days-in (d .month) (d .year))) (date (d .day + 1) (d .month) (d .year)) (next-month d)
 
+-- 02, Wish 5: "the preceding calendar day; the day before 1 January 2000 is 31 December 2099, as the clock runs".
+unfoldable pub previous-year : Date → Date
+previous-year d = pick (ltb 0 (d .year)) (date 31 12 (d .year - 1)) (date 31 12 99)
+
+unfoldable pub previous-month : Date → Date
+previous-month d =
+    pick (ltb 1 (d .month)) (date (days-in (d .month - 1) (d .year)) (d .month - 1) (d .year)) (previous-year d)
+
+unfoldable pub previous-date : Date → Date
+previous-date d = pick (ltb 1 (d .day)) (date (d .day - 1) (d .month) (d .year)) (previous-month d)
+
 unfoldable pub next-hour : Clock → Clock
 next-hour c = pick (ltb (c .hour) 23) (moment 0 0 (c .hour + 1) (c .date)) (moment 0 0 0 (next-date (c .date)))
 
@@ -81,8 +92,8 @@ abbrev pub month-entry : ℕ → List ℕ
 month-entry month = pick (within 1 12 month) (take 3 (drop (3 * (month - 1)) months)) no-entry
 
 -- 01, What a content is: "Codes 55h 56h 57h are the three characters of the hour's entry, 58h to 5Ah the minute's, 5Bh to 5Dh the
--- month's, 61h to 63h the day of month's". "The date is the calendar date." What the codes 55h to 6Ch stand for at a moment, one
--- behind the other; a code that document 01 doesn't have stands for nothing.
+-- month's, 61h to 63h the day of month's". What the codes 55h to 6Ch stand for at a moment, one behind the other; a code that document 01
+-- doesn't have stands for nothing.
 unfoldable pub entries : Clock → List ℕ
 entries c =
     entry (c .hour) ++ entry (c .minute) ++ month-entry (c .date .month) ++ no-entry ++ entry (c .date .day)
@@ -98,7 +109,8 @@ clock-text c =
     two (c .second) ++ two (c .minute) ++ two (c .hour) ++ (0x20 ∷ 0x20 ∷ []) ++ two (c .date .day)
     ++ (0x20 ∷ 0x20 ∷ 0x20 ∷ 0x20 ∷ 0x20 ∷ []) ++ two (c .date .month) ++ month-entry (c .date .month) ++ two (c .date .year)
 
--- 01, Parameters, counter, clock: "52h's data: "0000", "01" to "96", A to Z, the twelve months."
+-- 01, Parameters, counter, clock: "52h's data: "0000", "01" to "96", A to Z, the twelve months." What stands behind the four digits, which
+-- are the date change's.
 abbrev pub numbers : ℕ → ℕ → List ℕ
 numbers zero from = []
 numbers (suc count) from = two from ++ numbers count (from + 1)
@@ -107,5 +119,5 @@ abbrev pub letters : ℕ → ℕ → List ℕ
 letters zero from = []
 letters (suc count) from = from ∷ letters count (from + 1)
 
-unfoldable pub table-text : List ℕ
-table-text = (0x30 ∷ 0x30 ∷ 0x30 ∷ 0x30 ∷ []) ++ numbers 96 1 ++ letters 26 0x41 ++ months
+unfoldable pub codes-text : List ℕ
+codes-text = numbers 96 1 ++ letters 26 0x41 ++ months

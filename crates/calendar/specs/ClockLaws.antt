@@ -5,7 +5,7 @@ use mathlib.Core.List.{List, [], _∷_, map}
 use mathlib.Core.Path.{_≡_}
 use lib.ListN.{length, take, drop}
 use Rattle.content.specs.StripLaws.{printable}
-use Rattle.calendar.specs.Clock.{clock-text, date, entries, entry, is-real, moment, month-entry, table-text, tick}
+use Rattle.calendar.specs.Clock.{clock-text, date, entries, entry, is-real, moment, month-entry, tick}
 use Rattle.calendar.specs.declared.clock.Clock.{Clock}
 
 -- 01, Parameters, counter, clock: "It moves by a call per second": every real moment has a real successor.
@@ -33,10 +33,9 @@ EntriesPlaced =
     × (entry-from 0x5B c ≡ month-entry (c .date .month))
     × (entry-from 0x61 c ≡ entry (c .date .day))
 
--- Codes 55h to 6Ch: 24 of them; 01, On the wire: D6h's data has 22 bytes, 52h's 258.
+-- Codes 55h to 6Ch: 24 of them; 01, On the wire: D6h's data has 22 bytes.
 abbrev pub TextsLong : Type 0
-TextsLong =
-    ((c : Clock) → (length (entries c) ≡ 24) × (length (clock-text c) ≡ 22)) × (length table-text ≡ 258)
+TextsLong = (c : Clock) → (length (entries c) ≡ 24) × (length (clock-text c) ≡ 22)
 
 -- The last second of a day.
 abbrev pub eve : ℕ → ℕ → ℕ → Clock

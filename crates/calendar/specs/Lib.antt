@@ -1,5 +1,7 @@
--- The rules of `calendar`: what a real moment is, the next one, and the texts of a moment; what is true of them; that every contract has
--- one outcome.
+-- The rules of `calendar`: what a real moment is, the next one, the day before, the texts of a moment, and what is printed of it; what is
+-- true of them; that every contract has one outcome.
 pub mod Clock
+pub mod DateChange
 pub mod ClockLaws
+pub mod DateChangeLaws
 pub mod Unique

@@ -1,7 +1,7 @@
 // The clock: a moment by value, whose tick hands back the next.
 use content::byte::within;
 ghost use mathlib.Core.Path.{_≡_};
-ghost use Rattle.calendar.specs.Clock.{clock-text, date, days-in, entries, is-date, is-leap, is-real, moment, month-entry, next-date, next-hour, next-minute, next-month, next-year, ones, tens, tick};
+ghost use Rattle.calendar.specs.Clock.{clock-text, date, days-in, entries, is-date, is-leap, is-real, moment, month-entry, next-date, next-hour, next-minute, next-month, next-year, ones, previous-date, previous-month, previous-year, tens, tick};
 
 // Years are 0 to 99, for 2000 to 2099.
 pub struct Date {
@@ -124,6 +124,38 @@ impl Date {
         }
         self.next_month()
     }
+
+    fn previous_year(self) -> Date
+        ensures { λ r. ⌜ r ≡ previous-year self ⌝ }
+    {
+        let year = self.year;
+        if 0 < year {
+            return date_of(31, 12, year - 1);
+        }
+        date_of(31, 12, 99)
+    }
+
+    fn previous_month(self) -> Date
+        ensures { λ r. ⌜ r ≡ previous-month self ⌝ }
+    {
+        let month = self.month;
+        let year = self.year;
+        if 1 < month {
+            return date_of(days_in(month - 1, year), month - 1, year);
+        }
+        self.previous_year()
+    }
+
+    // The day before.
+    pub(crate) fn previous_date(self) -> Date
+        ensures { λ r. ⌜ r ≡ previous-date self ⌝ }
+    {
+        let day = self.day;
+        if 1 < day {
+            return date_of(day - 1, self.month, self.year);
+        }
+        self.previous_month()
+    }
 }
 
 impl Clock {
@@ -179,13 +211,13 @@ impl Clock {
     }
 }
 
-fn tens(n: u8) -> u8
+pub(crate) fn tens(n: u8) -> u8
     ensures { λ r. ⌜ r ≡ tens n ⌝ }
 {
     n / 10 % 10 + 0x30
 }
 
-fn ones(n: u8) -> u8
+pub(crate) fn ones(n: u8) -> u8
     ensures { λ r. ⌜ r ≡ ones n ⌝ }
 {
     n % 10 + 0x30
@@ -253,6 +285,6 @@ pub fn clock_text(c: Clock) -> [u8; 22]
     ]
 }
 
-// 52h's answer: "0000", "01" to "96", A to Z, the twelve months.
-pub const TABLE: [u8; 258] =
-    *b"0000010203040506070809101112131415161718192021222324252627282930313233343536373839404142434445464748495051525354555657585960616263646566676869707172737475767778798081828384858687888990919293949596ABCDEFGHIJKLMNOPQRSTUVWXYZJANFEVMARAVRMAIJUNJUIAOUSEPOCTNOVDEC";
+// 52h's answer behind its four digits: "01" to "96", A to Z, the twelve months.
+pub const CODES: [u8; 254] =
+    *b"010203040506070809101112131415161718192021222324252627282930313233343536373839404142434445464748495051525354555657585960616263646566676869707172737475767778798081828384858687888990919293949596ABCDEFGHIJKLMNOPQRSTUVWXYZJANFEVMARAVRMAIJUNJUIAOUSEPOCTNOVDEC";

@@ -13,17 +13,20 @@ use lib.Seq.{take-nil, getD-take, getD-drop, drop-drop, take-at, drop-at, getD-a
 use Rattle.frame.specs.Ground.{pick, every, each, joined}
 use Rattle.frame.proofs.Ground.{pick-case, both-true, within-true, length-over, length-each}
 use Rattle.calendar.specs.Clock.{is-real, is-leap, days-in}
+use Rattle.calendar.specs.DateChange.{is-time}
 use Rattle.printer.specs.Number.{is-digit, all-digits, value-from, number-from, number-of, in-bytes}
 use Rattle.printer.specs.Counter.{Counter, control, all-digits-in, initial, final, step, lot, good-settings, grown, next-value, next-batch, is-set, moved, counted, valid-counter, counter-size, counter-of, counter-bytes}
 use Rattle.printer.specs.Jet.{Jet, has-jet, good-parameters, valid-jet, counted-jet, general-place, counter-place, jet-size, jet-of, jet-bytes}
-use Rattle.printer.specs.State.{state-size, empty-jet, jets-of, printer-of, bytes-of, valid, valid-state}
-use Rattle.printer.specs.BytesLaws.{AllBytes, SizedCounter, SizedJet, SizedJets, SizedMoment, AllOf, StateBack, SameBytes, PrinterBack, BytesFull, ValidBytes, SizedOf, SizedFresh, SizedWithJet, SizedClock, SizedEach, SizedMessage, SizedParameters, SizedPrint}
+use Rattle.printer.specs.State.{state-size, jets-place, empty-jet, with-jets, jets-of, printer-of, bytes-of, valid, valid-state}
+use Rattle.printer.specs.BytesLaws.{AllBytes, SizedCounter, SizedJet, SizedJets, SizedMoment, SizedTime, AllOf, StateBack, SameBytes, PrinterBack, BytesFull, ValidBytes, SizedOf, SizedFresh, SizedWithJet, SizedClock, SizedDateChange, SizedEach, SizedMessage, SizedParameters, SizedPrint}
 use Rattle.calendar.specs.declared.clock.Clock.{Clock}
+use Rattle.calendar.specs.declared.date_change.TimeOfDay.{TimeOfDay}
 use Rattle.printer.proofs.Valid.{valid-size, valid-printer, valid-row, jet-counter}
 use Rattle.printer.proofs.Numbers.{Bytes, bytes-drop}
 use Rattle.printer.proofs.Memory.{part-bytes, next-place}
 use Rattle.printer.proofs.Memory as memory
 use Rattle.calendar.proofs.Moments.{real-tells}
+use Rattle.calendar.proofs.DateChangeLaws.{time-tells}
 
 fitting : (m : List ℕ) → AllBytes m → Bytes m
 fitting m f i = record { fits = f i }
@@ -125,7 +128,7 @@ row-again (j ∷ js) z =
 pub printer-back : PrinterBack
 unfolding printer-of bytes-of
 printer-back p z =
-    ap (λ (js : List Jet). record { model = p .model; clock = p .clock; jets = js })
+    ap (with-jets p)
     (ap (λ (k : ℕ). jets-of k (joined (map jet-bytes (p .jets)))) (sym (z .four)) ∙ row-again (p .jets) (z .jets))
 
 pub bytes-full : BytesFull
@@ -188,8 +191,9 @@ sized-of m full f =
             month = drop-all 1 m f 4;
             year = drop-all 1 m f 5;
           };
+      date-change = record { hour = drop-all 7 m f 0; minute = drop-all 7 m f 1 };
       four = refl;
-      jets = sized-row 4 (drop 7 m) (rw length-drop (omega arith)) (drop-all 7 m f);
+      jets = sized-row 4 (drop jets-place m) (rw length-drop (omega arith)) (drop-all jets-place m f);
     }
 
 month-short : (month year : ℕ) → days-in month year ≤ 31
@@ -218,6 +222,9 @@ real-sized c v =
       year = omega arith;
     }
 
+pub time-sized : (t : TimeOfDay) → is-time t ≡ true → SizedTime t
+time-sized t v = let h = time-tells t v in record { hour = omega arith; minute = omega arith }
+
 empty-sized : SizedJet empty-jet
 unfolding empty-jet
 empty-sized =
@@ -234,6 +241,7 @@ sized-fresh model clock t v =
     record {
       model = omega arith;
       clock = real-sized clock v;
+      date-change = record { hour = omega arith; minute = omega arith };
       four = refl;
       jets = (empty-sized, (empty-sized, (empty-sized, (empty-sized, tt))));
     }
@@ -249,14 +257,31 @@ each-all P Q f h n (j ∷ js) z = (h n j (z .0), each-all P Q f h (n + 1) js (z 
 
 pub sized-with-jet : SizedWithJet
 sized-with-jet p n j z w =
-    record { model = z .model; clock = z .clock; four = length-set (p .jets) (n - 1) j ∙ z .four; jets = set-sized (p .jets) (n - 1) j (z .jets) w }
+    record {
+      model = z .model;
+      clock = z .clock;
+      date-change = z .date-change;
+      four = length-set (p .jets) (n - 1) j ∙ z .four;
+      jets = set-sized (p .jets) (n - 1) j (z .jets) w;
+    }
 
 pub sized-clock : SizedClock
-sized-clock p c z v = record { model = z .model; clock = real-sized c v; four = z .four; jets = z .jets }
+sized-clock p c z v =
+    record { model = z .model; clock = real-sized c v; date-change = z .date-change; four = z .four; jets = z .jets }
+
+pub sized-date-change : SizedDateChange
+sized-date-change p t z v =
+    record { model = z .model; clock = z .clock; date-change = time-sized t v; four = z .four; jets = z .jets }
 
 pub sized-each : SizedEach
 sized-each p f h z =
-    record { model = z .model; clock = z .clock; four = length-each f 1 (p .jets) ∙ z .four; jets = each-all SizedJet SizedJet f h 1 (p .jets) (z .jets) }
+    record {
+      model = z .model;
+      clock = z .clock;
+      date-change = z .date-change;
+      four = length-each f 1 (p .jets) ∙ z .four;
+      jets = each-all SizedJet SizedJet f h 1 (p .jets) (z .jets);
+    }
 
 -- ---- What digits come to: nine of them stay below 10 to the ninth.
 digit-most : (b : ℕ) → is-digit b ≡ true → b ≤ 0x39
@@ -385,12 +410,13 @@ unfolding printer-of
 sized-print m v f =
     let full = valid-size m v in
     let z = sized-of m full f in
-    let row = countable-row (getD m 0 0) 1 4 (drop 7 m) (rw length-drop (omega arith)) (drop-all 7 m f) (valid-row (printer-of m) (valid-printer m v)) in
+    let row = countable-row (getD m 0 0) 1 4 (drop jets-place m) (rw length-drop (omega arith)) (drop-all jets-place m f) (valid-row (printer-of m) (valid-printer m v)) in
     record {
       model = z .model;
       clock = z .clock;
+      date-change = z .date-change;
       four = refl;
-      jets = each-all Countable SizedJet (λ (n : ℕ) (j : Jet). counted-jet j) counts 1 (jets-of 4 (drop 7 m)) row;
+      jets = each-all Countable SizedJet (λ (n : ℕ) (j : Jet). counted-jet j) counts 1 (jets-of 4 (drop jets-place m)) row;
     }
   where
     counts : (n : ℕ) (j : Jet) → Countable j → SizedJet (counted-jet j)

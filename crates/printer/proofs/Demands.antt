@@ -3,6 +3,7 @@
 pub use Rattle.printer.proofs.Refusing.{bad-state, bad-state-elsewhere, short-buffer, refused-stays}
 -- Demand 2.
 pub use Rattle.printer.proofs.Accepting.{acknowledged-exactly, exact-effect, effect-kept, room-enough}
+pub use Rattle.printer.proofs.Setting.{calls-set}
 pub use Rattle.printer.proofs.Building.{built-read-as-built}
 pub use Rattle.printer.proofs.Editing.{update-numbered}
 pub use Rattle.printer.proofs.Placing.{update-tells-where, frame-tells-where, nowhere-else}

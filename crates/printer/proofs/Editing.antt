@@ -135,6 +135,7 @@ edit-edits p d four v x =
     record {
       model = refl;
       clock = refl;
+      date-change = refl;
       others = λ jet w q. jet-at-other p n jet new (r .0) (within-true 1 4 jet w .0) q;
       elsewhere = λ i o.
           ap (λ (l : List ℕ). getD l i 0) both
@@ -244,6 +245,7 @@ module _ (p : Printer) (text : List ℕ) (four : length (p .jets) ≡ 4) (v : va
       record {
         model = refl;
         clock = refl;
+        date-change = refl;
         second-head = λ jet w.
             let r = within-true 3 4 jet w in
             jet-at-other first-put 2 jet _ (omega arith) (omega arith) (λ e. omega arith)

@@ -36,7 +36,7 @@ use Rattle.printer.proofs.OrderLaws.{printer-order-case, order-case, me
 use Rattle.printer.proofs.Bodies.{content-there}
 use Rattle.printer.proofs.Editing.{put-jet, head-each}
 use Rattle.printer.proofs.Written.{written}
-use Rattle.printer.proofs.Leading.{Leads, stays, orders, updates, sets}
+use Rattle.printer.proofs.Leading.{Leads, stays, orders, updates, sets, changes}
 
 -- ---- A message beside the last whole one.
 -- Nothing beside nothing, or two contents of the same outline.
@@ -183,6 +183,7 @@ module _ (p : Printer) (four : length (p .jets) ≡ 4) (jet : ℕ) (k : 1 ≤ je
   leads-follow q b (orders store i d w f t) = order-tracks store i d w t
   leads-follow q b (updates text t) = update-tracks text t
   leads-follow q b (sets c r) = held
+  leads-follow q b (changes t r) = held
 
 -- ---- What is held.
 pub outline-same : {m last : List ℕ} → Follows m last → is-content m ≡ true → outline (tree-of m) ≡ outline (tree-of last)

@@ -9,7 +9,7 @@ use lib.ListN.{length, take, drop}
 use lib.Seq.{take-at, drop-at}
 use Rattle.frame.specs.Ground.{joined}
 use Rattle.printer.specs.Jet.{Jet, jet-size, jet-of, jet-bytes}
-use Rattle.printer.specs.State.{jet-at, with-jet, clock-bytes, jets-of, printer-of, bytes-of, valid-state}
+use Rattle.printer.specs.State.{jet-at, jet-place, jets-place, with-jet, front-bytes, jets-of, printer-of, bytes-of, valid-state}
 use Rattle.printer.proofs.Numbers.{Bytes}
 use Rattle.printer.proofs.Jets.{jet-back}
 use Rattle.printer.proofs.Memory.{part-bytes}
@@ -29,12 +29,12 @@ module _ {m : List ℕ} {a b : ℕ} (s : Stands m 1 a) (t : Stands m 2 b) where
       ∙ part-size t
 
   second-put : (j k : Jet) → length (jet-bytes j) ≡ jet-size
-      → putMid 566 jet-size (bytes-of (with-jet (printer-of m) 1 j)) (jet-bytes k) ≡ bytes-of (with-jet (with-jet (printer-of m) 1 j) 2 k)
+      → putMid (jet-place 2) jet-size (bytes-of (with-jet (printer-of m) 1 j)) (jet-bytes k) ≡ bytes-of (with-jet (with-jet (printer-of m) 1 j) 2 k)
   unfolding printer-of bytes-of
   second-put j k size =
       let p = printer-of m in
-      let rest = joined (map jet-bytes (jets-of 2 (drop jet-size (drop jet-size (drop 7 m))))) in
-      put-behind 566 jet-size (p .model ∷ (clock-bytes (p .clock) ++ jet-bytes j)) (jet-bytes (jet-at p 2)) (jet-bytes k) rest (omega arith) second-size
+      let rest = joined (map jet-bytes (jets-of 2 (drop jet-size (drop jet-size (drop jets-place m))))) in
+      put-behind (jet-place 2) jet-size (front-bytes p ++ jet-bytes j) (jet-bytes (jet-at p 2)) (jet-bytes k) rest (omega arith) second-size
 
   -- The first part is back, with as many bytes as it had.
   module _ (last : List ℕ) (kept : length last ≡ length (midOf a (a + jet-size - a) m)) where
@@ -45,7 +45,7 @@ module _ {m : List ℕ} {a b : ℕ} (s : Stands m 1 a) (t : Stands m 2 b) where
     pub second-still : jet-of (midOf b (b + jet-size - b) (putMid a (a + jet-size - a) m last)) ≡ jet-at (printer-of m) 2
     second-still =
         let same : drop b (putMid a (a + jet-size - a) m last) ≡ drop b m =
-        rw (t .place, s .place) (drop-put 7 566 m last (omega arith) (omega (arith, part-inside t)) (kept ∙ part-size s))
+        rw (t .place, s .place) (drop-put (jet-place 1) (jet-place 2) m last (omega arith) (omega (arith, part-inside t)) (kept ∙ part-size s))
         in
         ap (λ (l : List ℕ). jet-of (take (b + jet-size - b) l)) same ∙ part-jet t
 

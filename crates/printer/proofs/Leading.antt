@@ -17,18 +17,20 @@ use Rattle.frame.specs.declared.receive.Received.the-variants.{Partial, Refused
 use Rattle.frame.proofs.Ground.{both-true, pick-case, unless-tells}
 use Rattle.frame.proofs.Heard.{Sound, sound, frame-inside}
 use Rattle.calendar.specs.Clock.{is-real, tick}
-use Rattle.printer.specs.State.{Printer, with-clock, valid, valid-state, printer-of, bytes-of}
+use Rattle.calendar.specs.DateChange.{is-time}
+use Rattle.printer.specs.State.{Printer, with-clock, with-date-change, valid, valid-state, printer-of, bytes-of}
 use Rattle.printer.specs.Order.{Order, left}
 use Rattle.printer.specs.Change.{update-fields}
 use Rattle.printer.specs.Messages.{valid-store}
 use Rattle.printer.specs.Receive.{Handed, Outcome, outcome, handled, kept, obeyed, refusal, enquire, order, answer-size, strips-size}
-use Rattle.printer.specs.Call.{set-clock, tick-clock}
+use Rattle.printer.specs.Call.{set-clock, set-date-change, tick-clock}
 use Rattle.printer.specs.OrderLaws.{numbered}
-use Rattle.printer.specs.Demands.{Call, hand-in, clock-set, second-passes, after, Brought, nothing, brought-by, brought-in, brought}
+use Rattle.printer.specs.Demands.{Call, hand-in, clock-set, date-change-set, second-passes, after, Brought, nothing, brought-by, brought-in, brought}
 use Rattle.calendar.specs.declared.clock.Clock.{Clock}
+use Rattle.calendar.specs.declared.date_change.TimeOfDay.{TimeOfDay}
 use Rattle.printer.proofs.Valid.{valid-printer, valid-clock}
 use Rattle.calendar.proofs.ClockLaws.{tick-real}
-use Rattle.printer.proofs.StateLaws.{clock-valid}
+use Rattle.printer.proofs.StateLaws.{clock-valid, date-change-valid}
 use Rattle.printer.proofs.OrderLaws.{obeyed-done, obeyed-refused, given-exactly, fields-numbered, orders-numbered, order-keeps, update-keeps}
 use Rattle.printer.proofs.Rooms.{Rooms, SizeFits, update-rooms, order-rooms}
 
@@ -39,6 +41,7 @@ pub data Leads (jet : ℕ) (p : Printer) : Printer → Brought → Type 0 where
       → Leads jet p (order p store i d .after) (brought-by jet store i d)
   updates : (text : List ℕ) → all (update-fields p text .tests) ≡ true → Leads jet p (update-fields p text .after) nothing
   sets : (c : Clock) → is-real c ≡ true → Leads jet p (with-clock p c) nothing
+  changes : (t : TimeOfDay) → is-time t ≡ true → Leads jet p (with-date-change p t) nothing
 
 -- A property of a state and of what is brought, shown of the state as it is and of all that an accepted call leads to.
 module _ (jet : ℕ) (m : List ℕ) (Q : List ℕ → Brought → Type 0) (same : Q m nothing)
@@ -92,6 +95,13 @@ module _ (jet : ℕ) (m : List ℕ) (Q : List ℕ → Brought → Type 0) (same 
       (λ t. leads _ _ (sets c (both-true (is-real c) true (both-true (valid-state m) _ t .1) .0)))
       (λ _. same)
 
+  date-change-gives : (t : TimeOfDay) → Q (left (set-date-change m t) m) nothing
+  unfolding set-date-change
+  date-change-gives t =
+      pick-case (λ (l : List ℕ). Q l nothing) (both (valid-state m) (both (is-time t) true)) _ _
+      (λ e. leads _ _ (changes t (both-true (is-time t) true (both-true (valid-state m) _ e .1) .0)))
+      (λ _. same)
+
   tick-gives : Q (left (tick-clock m) m) nothing
   unfolding tick-clock
   tick-gives =
@@ -104,6 +114,7 @@ module _ (jet : ℕ) (m : List ℕ) (Q : List ℕ → Brought → Type 0) (same 
   pub one-call : (c : Call) → Q (after m c) (brought jet m c)
   one-call (hand-in h) = handed-gives h
   one-call (clock-set c) = clock-gives c
+  one-call (date-change-set t) = date-change-gives t
   one-call second-passes = tick-gives
 
 -- ---- What it leads to is valid and of the same type, and has the same rooms.
@@ -112,21 +123,25 @@ leads-valid v four stays = v
 leads-valid {p = p} v four (orders store i d w f t) = order-keeps p store i d four w .stays-valid v t
 leads-valid {p = p} v four (updates text t) = update-keeps p text four .stays-valid v t
 leads-valid {p = p} v four (sets c r) = clock-valid p c v r
+leads-valid {p = p} v four (changes t r) = date-change-valid p t v r
 
 pub leads-model : {jet : ℕ} {p q : Printer} {b : Brought} → length (p .jets) ≡ 4 → Leads jet p q b → q .model ≡ p .model
 leads-model four stays = refl
 leads-model {p = p} four (orders store i d w f t) = order-keeps p store i d four w .model
 leads-model {p = p} four (updates text t) = update-keeps p text four .model
 leads-model four (sets c r) = refl
+leads-model four (changes t r) = refl
 
 pub leads-four : {jet : ℕ} {p q : Printer} {b : Brought} → length (p .jets) ≡ 4 → Leads jet p q b → length (q .jets) ≡ 4
 leads-four four stays = four
 leads-four {p = p} four (orders store i d w f t) = order-keeps p store i d four w .as-many ∙ four
 leads-four {p = p} four (updates text t) = update-keeps p text four .as-many ∙ four
 leads-four four (sets c r) = four
+leads-four four (changes t r) = four
 
 pub leads-rooms : {jet : ℕ} {p q : Printer} {b : Brought} → valid p ≡ true → Rooms p → Leads jet p q b → Rooms q
 leads-rooms v r stays = r
 leads-rooms {p = p} v r (orders store i d w f t) = order-rooms p i d f v r store w t
 leads-rooms {p = p} v r (updates text t) = update-rooms p text r
 leads-rooms v r (sets c e) = r
+leads-rooms v r (changes t e) = r

@@ -24,10 +24,11 @@ pub mod NumberLaws
 pub mod OutcomeLaws
 pub mod Unique
 pub mod Samples
--- The demands: refusals, what is accepted, what was built, edits and updates, where a refusal stands, the store, prints; then every state that calls lead to, its room, its
+-- The demands: refusals, what is accepted, what a call sets, what was built, edits and updates, where a refusal stands, the store, prints; then every state that calls lead to, its room, its
 -- bytes and its messages; and all of them on one page.
 pub mod Refusing
 pub mod Accepting
+pub mod Setting
 pub mod Building
 pub mod Editing
 pub mod Placing

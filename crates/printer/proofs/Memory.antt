@@ -12,8 +12,9 @@ use Rattle.frame.specs.Ground.{both, joined, every}
 use Rattle.frame.proofs.Ground.{drop-next}
 use Rattle.printer.specs.Counter.{counter-of}
 use Rattle.printer.specs.Jet.{Jet, has-jet, jet-size, jet-of, jet-bytes}
-use Rattle.printer.specs.State.{state-size, jet-at, with-jet, with-clock, jets-of, jet-place, empty-jet, fresh-printer, clock-of, clock-bytes, printer-of, bytes-of}
+use Rattle.printer.specs.State.{state-size, jets-place, jet-at, with-jet, with-jets, with-clock, with-date-change, jets-of, jet-place, empty-jet, fresh-printer, front-bytes, printer-of, bytes-of}
 use Rattle.calendar.specs.declared.clock.Clock.{Clock}
+use Rattle.calendar.specs.declared.date_change.TimeOfDay.{TimeOfDay}
 use Rattle.printer.proofs.Numbers.{Bytes, bytes-take, bytes-drop}
 use Rattle.printer.proofs.Jets.{jet-back}
 
@@ -64,11 +65,11 @@ jets-put (suc k) (suc i) b j h full f =
     ∙ ap₂ (λ (x y : List ℕ). x ++ y) (sym (first-back b (omega arith) f))
     (jets-put k i (drop jet-size b) j (le-of-suc-le-suc h) (rw length-drop (omega arith)) (bytes-drop jet-size b f))
 
--- ---- The seven bytes before the jets.
+-- ---- The nine bytes before the jets.
 data Headed : List ℕ → Type 0 where
-  headed : (a b c d e f g : ℕ) (r : List ℕ) → Headed (a ∷ b ∷ c ∷ d ∷ e ∷ f ∷ g ∷ r)
+  headed : (a b c d e f g h i : ℕ) (r : List ℕ) → Headed (a ∷ b ∷ c ∷ d ∷ e ∷ f ∷ g ∷ h ∷ i ∷ r)
 
-head-of : (m : List ℕ) → 7 ≤ length m → Headed m
+head-of : (m : List ℕ) → jets-place ≤ length m → Headed m
 head-of [] h = absurd (omega arith)
 head-of (a ∷ []) h = absurd (omega arith)
 head-of (a ∷ b ∷ []) h = absurd (omega arith)
@@ -76,34 +77,47 @@ head-of (a ∷ b ∷ c ∷ []) h = absurd (omega arith)
 head-of (a ∷ b ∷ c ∷ d ∷ []) h = absurd (omega arith)
 head-of (a ∷ b ∷ c ∷ d ∷ e ∷ []) h = absurd (omega arith)
 head-of (a ∷ b ∷ c ∷ d ∷ e ∷ f ∷ []) h = absurd (omega arith)
-head-of (a ∷ b ∷ c ∷ d ∷ e ∷ f ∷ g ∷ r) h = headed a b c d e f g r
+head-of (a ∷ b ∷ c ∷ d ∷ e ∷ f ∷ g ∷ []) h = absurd (omega arith)
+head-of (a ∷ b ∷ c ∷ d ∷ e ∷ f ∷ g ∷ i ∷ []) h = absurd (omega arith)
+head-of (a ∷ b ∷ c ∷ d ∷ e ∷ f ∷ g ∷ i ∷ j ∷ r) h = headed a b c d e f g i j r
 
--- They are the type and the clock.
-pub head-bytes : (m rest : List ℕ) → 7 ≤ length m → getD m 0 0 ∷ (clock-bytes (clock-of (drop 1 m)) ++ rest) ≡ take 7 m ++ rest
-head-bytes m rest h = go (head-of m h)
+-- They are the type, the clock and the date change.
+pub front-back : (m : List ℕ) → jets-place ≤ length m → front-bytes (printer-of m) ≡ take jets-place m
+unfolding printer-of
+front-back m h = go (head-of m h)
   where
-    go : {m : List ℕ} → Headed m → getD m 0 0 ∷ (clock-bytes (clock-of (drop 1 m)) ++ rest) ≡ take 7 m ++ rest
-    go (headed a b c d e f g r) = refl
+    go : {m : List ℕ} → Headed m → front-bytes (printer-of m) ≡ take jets-place m
+    go (headed a b c d e f g h i r) = refl
 
 pub state-back : (m : List ℕ) → length m ≡ state-size → Bytes m → bytes-of (printer-of m) ≡ m
 unfolding printer-of bytes-of
 state-back m full f =
-    head-bytes m (joined (map jet-bytes (jets-of 4 (drop 7 m)))) (omega arith)
-    ∙ ap (λ (l : List ℕ). take 7 m ++ l) (jets-back 4 (drop 7 m) (rw length-drop (omega arith)) (bytes-drop 7 m f))
-    ∙ take-append-drop 7 m
+    ap (λ (l : List ℕ). l ++ joined (map jet-bytes (jets-of 4 (drop jets-place m)))) (front-back m (omega arith))
+    ∙ ap (λ (l : List ℕ). take jets-place m ++ l) (jets-back 4 (drop jets-place m) (rw length-drop (omega arith)) (bytes-drop jets-place m f))
+    ∙ take-append-drop jets-place m
 
 -- Another moment in its place.
 pub clock-put : (m : List ℕ) (c : Clock) → length m ≡ state-size → Bytes m
     → set (set (set (set (set (set m 1 (c .second)) 2 (c .minute)) 3 (c .hour)) 4 (c .date .day)) 5 (c .date .month)) 6 (c .date .year)
     ≡ bytes-of (with-clock (printer-of m) c)
 unfolding printer-of bytes-of
-clock-put m c full f = go (head-of m (omega arith)) (jets-back 4 (drop 7 m) (rw length-drop (omega arith)) (bytes-drop 7 m f))
+clock-put m c full f = go (head-of m (omega arith)) (jets-back 4 (drop jets-place m) (rw length-drop (omega arith)) (bytes-drop jets-place m f))
   where
-    go : {m : List ℕ} → Headed m → joined (map jet-bytes (jets-of 4 (drop 7 m))) ≡ drop 7 m
+    go : {m : List ℕ} → Headed m → joined (map jet-bytes (jets-of 4 (drop jets-place m))) ≡ drop jets-place m
         → set (set (set (set (set (set m 1 (c .second)) 2 (c .minute)) 3 (c .hour)) 4 (c .date .day)) 5 (c .date .month)) 6 (c .date .year)
         ≡ bytes-of (with-clock (printer-of m) c)
-    go (headed a _ _ _ _ _ _ r) e =
-        ap (λ (l : List ℕ). a ∷ c .second ∷ c .minute ∷ c .hour ∷ c .date .day ∷ c .date .month ∷ c .date .year ∷ l) (sym e)
+    go (headed a _ _ _ _ _ _ h i r) e =
+        ap (λ (l : List ℕ). a ∷ c .second ∷ c .minute ∷ c .hour ∷ c .date .day ∷ c .date .month ∷ c .date .year ∷ h ∷ i ∷ l) (sym e)
+
+-- Another date change in its place.
+pub date-change-put : (m : List ℕ) (t : TimeOfDay) → length m ≡ state-size → Bytes m
+    → set (set m 7 (t .hour)) 8 (t .minute) ≡ bytes-of (with-date-change (printer-of m) t)
+unfolding printer-of bytes-of
+date-change-put m t full f = go (head-of m (omega arith)) (jets-back 4 (drop jets-place m) (rw length-drop (omega arith)) (bytes-drop jets-place m f))
+  where
+    go : {m : List ℕ} → Headed m → joined (map jet-bytes (jets-of 4 (drop jets-place m))) ≡ drop jets-place m
+        → set (set m 7 (t .hour)) 8 (t .minute) ≡ bytes-of (with-date-change (printer-of m) t)
+    go (headed a b c d e f g _ _ r) p = ap (λ (l : List ℕ). a ∷ b ∷ c ∷ d ∷ e ∷ f ∷ g ∷ t .hour ∷ t .minute ∷ l) (sym p)
 
 -- The part of a jet has 559 bytes, and is that jet.
 pub part-full : (m : List ℕ) (at : ℕ) → length m ≡ state-size → at + jet-size ≤ state-size → length (midOf at (at + jet-size - at) m) ≡ jet-size
@@ -112,18 +126,18 @@ part-full m at full h = mid-len at (at + jet-size) m (omega arith) ∙ behind at
 pub jet-lent : (m : List ℕ) (n : ℕ) {at : ℕ} → at ≡ jet-place n → 1 ≤ n → n ≤ 4 → jet-of (midOf at (at + jet-size - at) m) ≡ jet-at (printer-of m) n
 unfolding printer-of
 jet-lent m n e h g = rw (e, behind (jet-place n) jet-size)
-    (ap jet-of (mid-behind 7 (jet-size * (n - 1)) jet-size m) ∙ sym (jets-at 4 (n - 1) (drop 7 m) empty-jet (omega arith)))
+    (ap jet-of (mid-behind jets-place (jet-size * (n - 1)) jet-size m) ∙ sym (jets-at 4 (n - 1) (drop jets-place m) empty-jet (omega arith)))
 
 -- A jet's bytes written into its part.
 pub jet-put : (m : List ℕ) (n : ℕ) (j : Jet) {at : ℕ} {last : List ℕ} → length m ≡ state-size → Bytes m → at ≡ jet-place n → 1 ≤ n → n ≤ 4
     → last ≡ jet-bytes j → putMid at (at + jet-size - at) m last ≡ bytes-of (with-jet (printer-of m) n j)
 unfolding printer-of bytes-of
 jet-put m n j full f e h g q = rw (e, q, behind (jet-place n) jet-size)
-    (put-behind 7 (jet-size * (n - 1)) jet-size m (jet-bytes j)
-    ∙ ap (λ (l : List ℕ). take 7 m ++ l) (jets-put 4 (n - 1) (drop 7 m) j (omega arith) (rw length-drop (omega arith)) (bytes-drop 7 m f))
-    ∙ sym (head-bytes m _ (omega arith)))
+    (put-behind jets-place (jet-size * (n - 1)) jet-size m (jet-bytes j)
+    ∙ ap (λ (l : List ℕ). take jets-place m ++ l) (jets-put 4 (n - 1) (drop jets-place m) j (omega arith) (rw length-drop (omega arith)) (bytes-drop jets-place m f))
+    ∙ ap (λ (l : List ℕ). l ++ joined (map jet-bytes (set (jets-of 4 (drop jets-place m)) (n - 1) j))) (sym (front-back m (omega arith))))
 
--- ---- A state of zeros, which a fresh printer is but for its type and its moment.
+-- ---- A state of zeros, which a fresh printer is but for its type and its moment; midnight is two of them.
 zero-jet : jet-of (replicate jet-size 0) ≡ empty-jet
 unfolding jet-of counter-of empty-jet
 zero-jet = refl
@@ -155,7 +169,7 @@ pub zeros-fresh : (model : ℕ) (c : Clock) {m : List ℕ} → m ≡ replicate s
 unfolding printer-of
 zeros-fresh model c e =
     ap (λ (l : List ℕ). with-clock (printer-of (set l 0 model)) c) e
-    ∙ ap (λ (js : List Jet). record { model = model; clock = c; jets = js }) (zero-jets 4)
+    ∙ ap (with-jets (fresh-printer model c)) (zero-jets 4)
 
 -- ---- A test of one jet after the other, before the n-th of which all have passed: what is left of the row gives the answer.
 pub record Walk (f : ℕ → Jet → Bool) (m : List ℕ) (n at : ℕ) : Type 0 where
@@ -167,7 +181,7 @@ pub record Walk (f : ℕ → Jet → Bool) (m : List ℕ) (n at : ℕ) : Type 0 
 further : (n at : ℕ) → at ≡ jet-place n → 1 ≤ n → at + jet-size ≡ jet-place (n + 1)
 further n at e h = omega arith
 
-pub walk-starts : (f : ℕ → Jet → Bool) (m : List ℕ) → Walk f m 1 7
+pub walk-starts : (f : ℕ → Jet → Bool) (m : List ℕ) → Walk f m 1 jets-place
 unfolding printer-of
 walk-starts f m = record { least = omega arith; most = omega arith; place = refl; same = refl }
 

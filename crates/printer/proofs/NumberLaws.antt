@@ -19,14 +19,14 @@ use Rattle.printer.specs.Change.{set-message, set-parameters, set-both, 
 use Rattle.printer.specs.Messages.{store-message, select-message}
 use Rattle.printer.specs.Request.{ask-counter, ask-message, ask-table, ask-clock}
 use Rattle.printer.specs.Print.{print}
-use Rattle.printer.specs.Call.{set-clock, tick-clock}
+use Rattle.printer.specs.Call.{set-clock, set-date-change, tick-clock}
 use Rattle.printer.specs.Receive.{Handed, given-by, handled, handing-tests, obeyed, order, outcome, silent}
 use Rattle.printer.specs.State.{Printer, printer-of}
 use Rattle.printer.specs.NumberLaws.{CallsGiveFirst, InOrder, asked-tests, outcome-tests}
 use Rattle.printer.proofs.OrderLaws.{obeyed-given, printer-order-case, order-case}
 
 pub numbers-in-order : InOrder
-unfolding store-message select-message set-message set-parameters set-both edit-message update-fields ask-counter ask-message ask-table ask-clock print set-clock tick-clock
+unfolding store-message select-message set-message set-parameters set-both edit-message update-fields ask-counter ask-message ask-table ask-clock print set-clock set-date-change tick-clock
 numbers-in-order =
     record {
       frames =
@@ -37,6 +37,7 @@ numbers-in-order =
       handing = λ m h. refl;
       fresh = λ m model clock. refl;
       clock = λ m clock. refl;
+      date-change = λ m time. refl;
       tick = λ m. refl;
       show = λ store n. refl;
     }
@@ -119,6 +120,7 @@ calls-give-first =
       receive = λ m h. first-given (outcome-tests m h) (given-by (outcome m h)) (asked-ordered m h (received (h .bytes))) (outcome-given m h);
       fresh = λ m model clock r m′ p. first-given _ (plain r) (numbers-in-order .fresh m model clock) (p .gives);
       clock = λ m clock r m′ p. first-given _ (plain r) (numbers-in-order .clock m clock) (p .gives);
+      date-change = λ m time r m′ p. first-given _ (plain r) (numbers-in-order .date-change m time) (p .gives);
       tick = λ m r m′ p. first-given _ (plain r) (numbers-in-order .tick m) (p .gives);
       show = λ store current n refused r p. first-given _ (plain refused) (numbers-in-order .show store n) (p .gives);
     }

@@ -1,19 +1,20 @@
 -- An order: what a test that fails and what tests that all hold say of it.
-use Prim.Native.Nat.{ℕ, _+_, _≤_}
+use Prim.Native.Nat.{ℕ, _+_, _-_, _≤_}
 use mathlib.Core.Bool.{Bool, true, false, not}
 use mathlib.Core.List.{List, [], _∷_, _++_, append-assoc}
 use mathlib.Core.Path.{_≡_, refl, sym, _∙_, ap, ap₂}
 use native.Mathlib.Omega.{arith}
 use borrow.Author.Tests.{not-true, not-false}
-use lib.ListN.{length, take, drop, length-append}
-use lib.Seq.{take-at, drop-at}
+use borrow.Rule.Slice.PartMut.{midOf, putMid}
+use lib.ListN.{length, take, drop, length-append, take-append-drop}
+use lib.Seq.{length-take-le, take-at, drop-at}
 use Rattle.frame.specs.Ground.{Test, plain, checked, given, all, over}
 use Rattle.frame.specs.declared.given.Given.{Given}
 use Rattle.frame.specs.Wire.{head-size}
 use Rattle.frame.specs.Build as build
-use Rattle.frame.specs.Build.{frame, Answers, Wraps}
+use Rattle.frame.specs.Build.{frame, Answers, Lays, Wraps}
 use Rattle.frame.specs.declared.build.Built.{Built}
-use Rattle.frame.proofs.Ground.{checked-all, length-over, over-under}
+use Rattle.frame.proofs.Ground.{checked-all, laid-behind, length-over, over-under}
 use Rattle.frame.proofs.Told.{frame-length, answered-fits, wrap-fits}
 use Rattle.printer.specs.Jet.{Jet, jet-bytes}
 use Rattle.printer.specs.State.{bytes-of}
@@ -121,3 +122,30 @@ wrapped identifier w d before {xs} {n = n} p three e k short room =
     wrap-fits p (omega arith) (omega arith) .1
     ∙ ap₂ (λ (x y : List ℕ). over (frame identifier x) y) there e
     ∙ over-under (frame identifier d) (w ++ d) before (omega (arith, frame-length identifier d))
+
+-- Two parts laid one behind the other where the data stands, and the frame around both.
+module _ (identifier at : ℕ) (q text before : List ℕ) {last last′ after : List ℕ} {r r′ : Bool} {r″ : Built} {n : ℕ} (next : at ≡ head-size + length q)
+    (short : length q + length text ≤ 549) (room : 553 ≤ length before) (a : Lays (midOf head-size (length before - head-size) before) q r last)
+    (b : let xs = putMid head-size (length before - head-size) before last in Lays (midOf at (length xs - at) xs) text r′ last′) (whole : n ≡ length q + length text)
+    (c : let xs = putMid head-size (length before - head-size) before last in Wraps (putMid at (length xs - at) xs last′) identifier n r″ after) where
+  three : length (take head-size before) ≡ head-size
+  three = length-take-le head-size before (omega arith)
+
+  front : length (take head-size before ++ q) ≡ at
+  front = simp length-append (omega (arith, three))
+
+  first : putMid head-size (length before - head-size) before last ≡ over (take head-size before ++ q) before
+  first =
+      laid-behind head-size (take head-size before) q before last r before three (omega arith)
+      (sym (ap (λ (k : ℕ). take head-size before ++ drop k before) three ∙ take-append-drop head-size before)) a
+
+  both-laid : let xs = putMid head-size (length before - head-size) before last in
+      putMid at (length xs - at) xs last′ ≡ over (take head-size before ++ (q ++ text)) before
+  both-laid =
+      laid-behind at (take head-size before ++ q) text before last′ r′ (putMid head-size (length before - head-size) before last) front (omega arith) first b
+      ∙ ap (λ (l : List ℕ). over l before) (append-assoc (take head-size before) q text)
+
+  pub framed : after ≡ over (frame identifier (q ++ text)) before
+  framed =
+      wrapped identifier (take head-size before) (q ++ text) before c three both-laid
+      (simp length-append (omega arith)) (simp length-append (omega arith)) room

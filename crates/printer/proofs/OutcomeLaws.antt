@@ -17,12 +17,14 @@ use Rattle.frame.specs.declared.receive.Received.the-variants.{Partial, Refused
 use Rattle.frame.proofs.Ground.{unless-case, unless-tells}
 use Rattle.frame.proofs.Told.{frame-length}
 use Rattle.frame.proofs.Laws.{consumed-inside}
-use Rattle.calendar.specs.Clock.{clock-text, table-text}
+use Rattle.calendar.specs.Clock.{clock-text}
+use Rattle.calendar.specs.DateChange.{table-text}
 use Rattle.calendar.proofs.ClockLaws.{texts-long}
+use Rattle.calendar.proofs.DateChangeLaws.{table-long}
 use Rattle.printer.specs.Number.{digits}
 use Rattle.printer.specs.Counter.{counter-of}
 use Rattle.printer.specs.Jet.{Jet, message, parameters, jet-size, jet-of}
-use Rattle.printer.specs.State.{Printer, empty-jet, jet-at, jets-of, valid-state, printer-of}
+use Rattle.printer.specs.State.{Printer, jets-place, empty-jet, jet-at, jets-of, valid-state, printer-of}
 use Rattle.printer.specs.Order.{Order, jet-number}
 use Rattle.printer.specs.Answer.{ack}
 use Rattle.printer.specs.Change.{set-message, set-parameters, set-both, edit-message, update-fields}
@@ -75,7 +77,7 @@ row-case P f e (suc k) (suc i) b = row-case P f e k i (drop jet-size b)
 
 pub jet-case : (P : Jet → Type 0) → ((b : List ℕ) → P (jet-of b)) → P empty-jet → (m : List ℕ) (n : ℕ) → P (jet-at (printer-of m) n)
 unfolding printer-of
-jet-case P f e m n = row-case P f e 4 (n - 1) (drop 7 m)
+jet-case P f e m n = row-case P f e 4 (n - 1) (drop jets-place m)
 
 read-short : (b : List ℕ) → length (parameters (jet-of b)) ≤ 37
 unfolding jet-of counter-of
@@ -111,12 +113,12 @@ message-short m d v =
     (omega (arith, length-append (parameters j) (message j), length-take (j .length) (j .content), parameters-short m (jet-number d), at-short m (jet-number d) v))
 
 table-short : (p : Printer) → Short (ask-table p)
-unfolding ask-table table-text
-table-short p = told-short 0x52 table-text (omega arith)
+unfolding ask-table
+table-short p = told-short 0x52 (table-text (p .date-change)) (omega (arith, table-long (p .date-change)))
 
 clock-short : (p : Printer) → Short (ask-clock p)
 unfolding ask-clock
-clock-short p = told-short 0x9C (clock-text (p .clock)) (omega (arith, texts-long .0 (p .clock) .1))
+clock-short p = told-short 0x9C (clock-text (p .clock)) (omega (arith, texts-long (p .clock) .1))
 
 order-short : (m store : List ℕ) (i : ℕ) (d : List ℕ) → valid-state m ≡ true → Short (order (printer-of m) store i d)
 unfolding set-message set-parameters set-both edit-message print store-message select-message

@@ -15,13 +15,14 @@ use Rattle.content.specs.declared.test.Verdict.{Verdict}
 use Rattle.content.specs.declared.test.Verdict.the-variants.{Good, Unfit}
 use Rattle.content.proofs.StripLaws.{strip-resolves, strip-ends, strip-is-content, strip-same-shape, strip-length}
 use Rattle.calendar.specs.Clock.{entries}
+use Rattle.calendar.specs.DateChange.{printed}
 use Rattle.printer.specs.Counter.{Counter, is-set, moved, counted}
 use Rattle.printer.specs.Jet.{Jet, has-jet, has-message, message, has-parameters, valid-message, valid-jet, counted-jet}
 use Rattle.printer.specs.State.{Printer, empty-jet, jet-at}
-use Rattle.printer.specs.Print.{ready-jet, ready, values, strip-of, strips, counted-jets}
+use Rattle.printer.specs.Print.{ready-jet, ready, entries-now, values, strip-of, strips, counted-jets}
 use Rattle.printer.specs.PrintLaws.{ValuesPrintable, strip-at, StripMeaning, NoStrip, StripsFit, CountedValid, SameButCount, CountedKeeps}
 use Rattle.calendar.specs.declared.clock.Clock.{Clock}
-use Rattle.printer.proofs.Valid.{valid-model, valid-clock, valid-row, valid-at, absent-empty, jet-content, on-row}
+use Rattle.printer.proofs.Valid.{valid-model, valid-clock, valid-time, valid-row, valid-at, absent-empty, jet-content, on-row}
 use Rattle.printer.proofs.Rows.{every-each, joined-short, each-beside}
 use Rattle.calendar.proofs.ClockLaws.{entries-print}
 use Rattle.printer.proofs.CounterLaws.{digits-print, count-stays}
@@ -58,7 +59,7 @@ jet-stays false j v = absent-counted j v
 
 pub counted-valid : CountedValid
 counted-valid p e =
-    parts-valid (counted-jets p) (valid-model p e) (valid-clock p e)
+    parts-valid (counted-jets p) (valid-model p e) (valid-clock p e) (valid-time p e)
     (every-each (λ (n : ℕ) (j : Jet). valid-jet (has-jet (p .model) n) j) (λ (n : ℕ) (j : Jet). counted-jet j)
     (λ n j w. jet-stays (has-jet (p .model) n) j w) 1 (p .jets) (valid-row p e))
 
@@ -67,6 +68,7 @@ counted-keeps p =
     record {
       model = refl;
       clock = refl;
+      date-change = refl;
       jets = λ n.
           each-beside (λ (k : ℕ) (j : Jet). counted-jet j) SameButCount empty-jet empty-jet
           (record { length = refl; content = refl; general = refl; settings = refl; set = refl })
@@ -98,10 +100,10 @@ unfolding strip empty-jet
 empty-strip entries = refl
 
 -- Among the strips of all jets, that of a jet.
-pub strip-there : (p : Printer) (n : ℕ) → strip-at (strips p) n ≡ strip-of (entries (p .clock)) (jet-at p n)
+pub strip-there : (p : Printer) (n : ℕ) → strip-at (strips p) n ≡ strip-of (entries-now p) (jet-at p n)
 strip-there p n =
-    each-beside (λ (k : ℕ) (j : Jet). strip-of (entries (p .clock)) j) (λ (j : Jet) (s : List ℕ). s ≡ strip-of (entries (p .clock)) j) empty-jet []
-    (empty-strip (entries (p .clock))) (λ k j. refl) 1 (n - 1) (p .jets)
+    each-beside (λ (k : ℕ) (j : Jet). strip-of (entries-now p) j) (λ (j : Jet) (s : List ℕ). s ≡ strip-of (entries-now p) j) empty-jet []
+    (empty-strip (entries-now p)) (λ k j. refl) 1 (n - 1) (p .jets)
 
 -- 512 bytes at most give a strip of 1536 at most.
 strip-short : (c : Clock) (present : Bool) (j : Jet) → valid-jet present j ≡ true → length (strip-of (entries c) j) ≤ 1536
@@ -117,12 +119,12 @@ pub strips-fit : StripsFit
 strips-fit p four e =
     omega (
       arith,
-      joined-short (λ (n : ℕ) (j : Jet). valid-jet (has-jet (p .model) n) j) 1536 (λ (n : ℕ) (j : Jet). strip-of (entries (p .clock)) j)
-          (λ n j w. strip-short (p .clock) (has-jet (p .model) n) j w) 1 (p .jets) (valid-row p e),
+      joined-short (λ (n : ℕ) (j : Jet). valid-jet (has-jet (p .model) n) j) 1536 (λ (n : ℕ) (j : Jet). strip-of (entries-now p) j)
+          (λ n j w. strip-short (printed (p .date-change) (p .clock)) (has-jet (p .model) n) j w) 1 (p .jets) (valid-row p e),
     )
 
 pub no-strip : NoStrip
-no-strip p n e h lacks = strip-there p n ∙ none-strip (entries (p .clock)) (jet-at p n) (absent-empty (jet-at p n) (rw lacks at (valid-at p n e h)) .0)
+no-strip p n e h lacks = strip-there p n ∙ none-strip (entries-now p) (jet-at p n) (absent-empty (jet-at p n) (rw lacks at (valid-at p n e h)) .0)
 
 -- Of a state that is ready, a jet that the printer has.
 pub ready-at : (p : Printer) (n : ℕ) → length (p .jets) ≡ 4 → ready p ≡ true → has-jet (p .model) n ≡ true
@@ -139,11 +141,11 @@ pub strip-meaning : StripMeaning
 strip-meaning p n four e r h =
     let j = jet-at p n in
     let good = content-good (message j) (jet-content _ j (valid-at p n e (on-row (p .model) n h .0)) (ready-at p n four r h .0)) .1 in
-    let v = values-printable (p .clock) j in
+    let v = values-printable (printed (p .date-change) (p .clock)) j in
     rw (strip-there p n)
     (record {
-      replaced = strip-resolves (values (entries (p .clock)) j) (message j) good;
-      ends = strip-ends (values (entries (p .clock)) j) (message j) good;
-      content = strip-is-content (values (entries (p .clock)) j) (message j) v good;
-      same-shape = strip-same-shape (values (entries (p .clock)) j) (message j) v good;
+      replaced = strip-resolves (values (entries-now p) j) (message j) good;
+      ends = strip-ends (values (entries-now p) j) (message j) good;
+      content = strip-is-content (values (entries-now p) j) (message j) v good;
+      same-shape = strip-same-shape (values (entries-now p) j) (message j) v good;
     })

@@ -12,12 +12,14 @@ use Rattle.frame.specs.Receive.{received}
 use Rattle.frame.specs.declared.receive.Received.the-variants.{Frame}
 use Rattle.frame.proofs.Ground.{unless-tells}
 use Rattle.frame.proofs.Laws.{read-back}
+use Rattle.calendar.specs.DateChange.{printed}
+use Rattle.calendar.proofs.DateChangeLaws.{printed-stands}
 use Rattle.printer.specs.State.{valid-state, printer-of}
 use Rattle.printer.specs.Print.{print, ready, strips}
 use Rattle.printer.specs.Messages.{valid-store}
 use Rattle.printer.specs.Receive.{Outcome, outcome, handled, obeyed, printer-order, order}
 use Rattle.printer.specs.Demands.{full, print-frame, PrintRefusedExactly, StripsPrinted}
-use Rattle.printer.proofs.Valid.{valid-printer, four-jets}
+use Rattle.printer.proofs.Valid.{valid-printer, valid-clock, valid-time, four-jets}
 use Rattle.printer.proofs.PrintLaws.{strip-meaning}
 use Rattle.printer.proofs.Accepting.{valid-handled}
 
@@ -41,5 +43,13 @@ ready-strips m store rest v w f = rw (print-obeyed m store rest v w, f)
 
 pub strips-printed : StripsPrinted
 strips-printed m store rest jet v w f h =
-    let s = strip-meaning (printer-of m) jet (four-jets m) (valid-printer m v) f h in
-    rw (ready-strips m store rest v w f) (record { ends = s .ends; same-shape = s .same-shape; items = s .replaced })
+    let p = printer-of m in
+    let s = strip-meaning p jet (four-jets m) (valid-printer m v) f h in
+    rw (ready-strips m store rest v w f)
+    (record {
+      ends = s .ends;
+      same-shape = s .same-shape;
+      moment = printed (p .date-change) (p .clock);
+      stands = printed-stands (p .date-change) (p .clock) (valid-time p (valid-printer m v)) (valid-clock p (valid-printer m v));
+      items = s .replaced;
+    })

@@ -11,10 +11,9 @@ use lib.Seq.{drop-drop, take-at, drop-at, take-length}
 use Rattle.frame.specs.Ground.{each, joined, over}
 use Rattle.frame.proofs.Ground.{copied-more, copied-all}
 use Rattle.frame.proofs.Lent.{Laid, laid-more}
-use Rattle.calendar.specs.Clock.{entries}
 use Rattle.printer.specs.Jet.{jet-size, jet-of, jet-bytes, counted-jet}
-use Rattle.printer.specs.State.{Printer, state-size, empty-jet, jet-at, clock-bytes, printer-of, bytes-of}
-use Rattle.printer.specs.Print.{strip-of, strips, counted-jets}
+use Rattle.printer.specs.State.{Printer, state-size, jets-place, empty-jet, jet-at, front-bytes, printer-of, bytes-of}
+use Rattle.printer.specs.Print.{entries-now, strip-of, strips, counted-jets}
 use Rattle.printer.proofs.Numbers.{Bytes}
 use Rattle.printer.proofs.Memory.{state-back, jet-lent}
 use Rattle.printer.proofs.Valid.{four-jets}
@@ -78,11 +77,11 @@ printed-all {xs} {before} {n = n} four h g p =
     )
 
 -- The strip of the next jet.
-pub strip-next : (m es : List ℕ) {at n : ℕ} → n < 4 → at ≡ 7 + jet-size * n → es ≡ entries (printer-of m .clock)
+pub strip-next : (m es : List ℕ) {at n : ℕ} → n < 4 → at ≡ jets-place + jet-size * n → es ≡ entries-now (printer-of m)
     → getD (strips (printer-of m)) n [] ≡ strip-of es (jet-of (midOf at (at + jet-size - at) m))
 strip-next m es {n = n} h e q =
     let p : Printer = printer-of m in
-    each-at (strip-of (entries (p .clock))) 1 (p .jets) n empty-jet [] (omega (arith, four-jets m))
+    each-at (strip-of (entries-now p)) 1 (p .jets) n empty-jet [] (omega (arith, four-jets m))
     ∙ ap₂ strip-of (sym q) (jet-next p n ∙ sym (jet-lent m (n + 1) (e ∙ omega arith) (omega arith) (omega arith)))
 
 pub four-strips : (m : List ℕ) → length (strips (printer-of m)) ≡ 4
@@ -90,9 +89,6 @@ unfolding printer-of
 four-strips m = refl
 
 -- ---- Counting: the bytes before the jets, and the bytes of n jets that have counted, stand before those that have not.
-abbrev front : Printer → List ℕ
-front p = p .model ∷ clock-bytes (p .clock)
-
 abbrev counted-bytes : Printer → List (List ℕ)
 counted-bytes p = map jet-bytes (counted-jets p .jets)
 
@@ -115,14 +111,14 @@ part-laid {a} {w} {before} {after} k last l e h =
     }
 
 pub record Counted (m m′ : List ℕ) (at n : ℕ) : Type 0 where
-  pub place : at ≡ 7 + jet-size * n
-  pub laid : Laid at (front (printer-of m) ++ joined (take n (counted-bytes (printer-of m)))) m m′
+  pub place : at ≡ jets-place + jet-size * n
+  pub laid : Laid at (front-bytes (printer-of m) ++ joined (take n (counted-bytes (printer-of m)))) m m′
 
-front-stays : (p : Printer) {m : List ℕ} → bytes-of p ≡ m → m ≡ over (front p ++ []) m
+front-stays : (p : Printer) {m : List ℕ} → bytes-of p ≡ m → m ≡ over (front-bytes p ++ []) m
 unfolding bytes-of
-front-stays p {m} e = subst (λ (l : List ℕ). l ≡ over (front p ++ []) l) e refl
+front-stays p {m} e = subst (λ (l : List ℕ). l ≡ over (front-bytes p ++ []) l) e refl
 
-pub counted-none : (m : List ℕ) → length m ≡ state-size → Bytes m → Counted m m 7 0
+pub counted-none : (m : List ℕ) → length m ≡ state-size → Bytes m → Counted m m jets-place 0
 counted-none m full f =
     record {
       place = refl;
@@ -157,9 +153,9 @@ pub counted-all : {m m′ : List ℕ} {at n : ℕ} → length m ≡ state-size �
 unfolding bytes-of
 counted-all {m} {m′} {at} {n} full h g c =
     let xs : List (List ℕ) = counted-bytes (printer-of m) in
-    let w : List ℕ = front (printer-of m) ++ joined (take n xs) in
+    let w : List ℕ = front-bytes (printer-of m) ++ joined (take n xs) in
     let e : n ≡ length xs = omega (arith, counted-four m, length-map (counted-jets (printer-of m) .jets) jet-bytes) in
     c .laid .same
     ∙ ap (λ (l : List ℕ). w ++ l) (drop-of-length-le m {i = length w} (omega (arith, c .laid .count, c .place)))
     ∙ append-nil w
-    ∙ ap (λ (l : List (List ℕ)). front (printer-of m) ++ joined l) (ap (λ (k : ℕ). take k xs) e ∙ take-length xs)
+    ∙ ap (λ (l : List (List ℕ)). front-bytes (printer-of m) ++ joined l) (ap (λ (k : ℕ). take k xs) e ∙ take-length xs)

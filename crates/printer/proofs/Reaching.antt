@@ -151,7 +151,13 @@ same-shape t u e = sym (outline-shape t) ∙ ap shape e ∙ outline-shape u
 printed-as : {p : Printer} {jet : ℕ} {held last strip : List ℕ} → outline (tree-of held) ≡ outline (tree-of last)
     → Printed p jet held strip → Printed p jet last strip
 printed-as {held = held} {last = last} e x =
-    record { ends = x .ends; same-shape = x .same-shape ∙ same-shape (tree-of held) (tree-of last) e; items = x .items }
+    record {
+      ends = x .ends;
+      same-shape = x .same-shape ∙ same-shape (tree-of held) (tree-of last) e;
+      moment = x .moment;
+      stands = x .stands;
+      items = x .items;
+    }
 
 pub printed-as-accepted : PrintedAsAccepted
 printed-as-accepted model clock calls store rest e w =

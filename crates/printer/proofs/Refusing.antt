@@ -12,7 +12,7 @@ use Rattle.frame.proofs.Ground.{pick-case, unless-tells, true-both, never}
 use Rattle.printer.specs.State.{printer-of, valid-state}
 use Rattle.printer.specs.Messages.{valid-store}
 use Rattle.printer.specs.Answer.{nack}
-use Rattle.printer.specs.Call.{set-clock, tick-clock}
+use Rattle.printer.specs.Call.{set-clock, set-date-change, tick-clock}
 use Rattle.printer.specs.Receive.{Outcome, outcome, silent, answer-size, strips-size}
 use Rattle.printer.specs.OutcomeLaws.{Refuses}
 use Rattle.printer.specs.Demands.{Untouched, BadState, BadStateElsewhere, ShortBuffer, RefusedStays}
@@ -38,10 +38,11 @@ abbrev number : Given → ℕ
 number g = g .number
 
 pub bad-state-elsewhere : BadStateElsewhere
-unfolding set-clock tick-clock
+unfolding set-clock set-date-change tick-clock
 bad-state-elsewhere m =
     record {
       clock-set = λ c r m′ v p. (ap number (p .gives) ∙ rw v, p .state ∙ rw v);
+      date-change-set = λ t r m′ v p. (ap number (p .gives) ∙ rw v, p .state ∙ rw v);
       second-passes = λ r m′ v p. (ap number (p .gives) ∙ rw v, p .state ∙ rw v);
       fresh = λ model c r m′ v p. (ap number (p .gives) ∙ rw v, p .state ∙ rw v);
     }

@@ -9,6 +9,7 @@ use Rattle.content.specs.Machine.{with-line, with-field}
 use Rattle.content.specs.Content.{verdict, is-content, tested, wrong-place}
 use Rattle.content.specs.Position.{mark-of}
 use Rattle.calendar.specs.Clock.{is-leap, days-in, is-date, is-real}
+use Rattle.calendar.specs.DateChange.{is-time}
 use Rattle.printer.specs.Counter.{good-settings, valid-counter, counter-of, counter-bytes}
 use Rattle.printer.specs.Jet.{has-jet, valid-message, valid-jet, jet-of, jet-bytes}
 use Rattle.printer.specs.State.{empty-jet, valid, printer-of, bytes-of, valid-state}
@@ -20,5 +21,5 @@ use Rattle.printer.specs.Receive.{printer-order, order, obeyed, outcome}
 use Rattle.printer.specs.Samples.{samples, come-out}
 
 pub samples-hold : map come-out samples ≡ samples
-unfolding size-of received updated judged framed frame is-character is-expansion is-count kind-of code-of with-line with-field verdict is-content tested wrong-place mark-of is-leap days-in is-date is-real good-settings valid-counter counter-of counter-bytes has-jet valid-message valid-jet jet-of jet-bytes empty-jet valid printer-of bytes-of valid-state set-message edit-message begins records rest is-store valid-store printer-order order obeyed outcome
+unfolding size-of received updated judged framed frame is-character is-expansion is-count kind-of code-of with-line with-field verdict is-content tested wrong-place mark-of is-leap days-in is-date is-real good-settings valid-counter counter-of counter-bytes has-jet valid-message valid-jet jet-of jet-bytes empty-jet valid printer-of bytes-of valid-state is-time set-message edit-message begins records rest is-store valid-store printer-order order obeyed outcome
 samples-hold = refl

@@ -11,25 +11,32 @@ use Rattle.frame.specs.Ground.{within}
 use Rattle.frame.proofs.Ground.{never, both-true, true-both, unless-tells}
 use Rattle.content.specs.Content.{verdict, is-content}
 use Rattle.calendar.specs.Clock.{days-in, is-date, is-real, tick}
+use Rattle.calendar.specs.DateChange.{is-time, midnight}
 use Rattle.printer.specs.Counter.{valid-counter}
 use Rattle.printer.specs.Jet.{Jet, has-jet, valid-message, valid-jet, good-parameters, with-message, with-parameters}
-use Rattle.printer.specs.State.{Printer, empty-jet, with-jet, with-clock, valid-jets, valid, fresh-printer}
-use Rattle.printer.specs.StateLaws.{FirstValid, FreshValid, ClockValid, TickValid, JetAtWithJet, JetAtOther, WithJetValid, MessageOf, MessageThere, MessageStays, ParametersStay}
+use Rattle.printer.specs.State.{Printer, empty-jet, with-jet, with-clock, with-date-change, valid-jets, valid, fresh-printer}
+use Rattle.printer.specs.StateLaws.{FirstValid, FreshValid, ClockValid, DateChangeValid, TickValid, JetAtWithJet, JetAtOther, WithJetValid, MessageOf, MessageThere, MessageStays, ParametersStay}
 use Rattle.calendar.specs.declared.clock.Clock.{Clock}
-use Rattle.printer.proofs.Valid.{valid-model, valid-clock, valid-row, empty-valid, on-row, content-short}
+use Rattle.calendar.specs.declared.date_change.TimeOfDay.{TimeOfDay}
+use Rattle.printer.proofs.Valid.{valid-model, valid-clock, valid-time, valid-row, empty-valid, on-row, content-short}
 use Rattle.printer.proofs.Rows.{every-set, every-replicate}
 use Rattle.calendar.proofs.ClockLaws.{tick-real}
 use Rattle.printer.proofs.CounterLaws.{set-valid}
 
 -- A state whose parts are valid.
-pub parts-valid : (p : Printer) → within 1 4 (p .model) ≡ true → is-real (p .clock) ≡ true → valid-jets p ≡ true → valid p ≡ true
+pub parts-valid : (p : Printer) → within 1 4 (p .model) ≡ true → is-real (p .clock) ≡ true → is-time (p .date-change) ≡ true → valid-jets p ≡ true
+    → valid p ≡ true
 unfolding valid
-parts-valid p m c j = true-both _ _ m (true-both _ _ c j)
+parts-valid p m c t j = true-both _ _ m (true-both _ _ c (true-both _ _ t j))
 
 -- ---- The calls.
+midnight-time : is-time midnight ≡ true
+unfolding is-time
+midnight-time = refl
+
 fresh-printer-valid : (model : ℕ) (clock : Clock) → within 1 4 model ≡ true → is-real clock ≡ true → valid (fresh-printer model clock) ≡ true
 fresh-printer-valid model clock m r =
-    parts-valid (fresh-printer model clock) m r
+    parts-valid (fresh-printer model clock) m r midnight-time
     (every-replicate (λ (n : ℕ) (j : Jet). valid-jet (has-jet model n) j) empty-jet (λ k. empty-valid (has-jet model k)) 1 4)
 
 pub first-valid : FirstValid
@@ -45,7 +52,10 @@ fresh-valid model clock =
     IsValid p = valid p ≡ true
 
 pub clock-valid : ClockValid
-clock-valid p clock e r = parts-valid (with-clock p clock) (valid-model p e) r (valid-row p e)
+clock-valid p clock e r = parts-valid (with-clock p clock) (valid-model p e) r (valid-time p e) (valid-row p e)
+
+pub date-change-valid : DateChangeValid
+date-change-valid p time e t = parts-valid (with-date-change p time) (valid-model p e) (valid-clock p e) t (valid-row p e)
 
 pub tick-valid : TickValid
 tick-valid p e = clock-valid p (tick (p .clock)) e (tick-real (p .clock) (valid-clock p e))
@@ -60,7 +70,7 @@ jet-at-other p n m j h g other = getD-set-other (p .jets) (n - 1) (m - 1) j empt
 -- A jet that is valid where it is put, also one that the printer lacks.
 pub put-valid : (p : Printer) (n : ℕ) (j : Jet) → valid p ≡ true → 1 ≤ n → valid-jet (has-jet (p .model) n) j ≡ true → valid (with-jet p n j) ≡ true
 put-valid p n j e h w =
-    parts-valid (with-jet p n j) (valid-model p e) (valid-clock p e)
+    parts-valid (with-jet p n j) (valid-model p e) (valid-clock p e) (valid-time p e)
     (every-set (λ (n : ℕ) (j : Jet). valid-jet (has-jet (p .model) n) j) 1 (n - 1) (p .jets) j (valid-row p e)
     (subst (λ (k : ℕ). valid-jet (has-jet (p .model) k) j ≡ true) (omega arith) w))
 

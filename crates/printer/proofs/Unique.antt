@@ -5,8 +5,8 @@ use mathlib.Core.Path.{_≡_, sym, _∙_, ap}
 use Rattle.frame.specs.Ground.{plain}
 use Rattle.frame.specs.declared.given.Given.{Given}
 use Rattle.frame.specs.declared.given.Where.{Where}
-use Rattle.printer.specs.Call.{set-clock, tick-clock}
-use Rattle.printer.specs.Unique.{FreshensUnique, ObeysUnique, SetClockUnique, TickUnique, ReceivesUnique, ShowsUnique}
+use Rattle.printer.specs.Call.{set-clock, set-date-change, tick-clock}
+use Rattle.printer.specs.Unique.{FreshensUnique, ObeysUnique, SetClockUnique, SetDateChangeUnique, TickUnique, ReceivesUnique, ShowsUnique}
 use Rattle.printer.specs.declared.answer.Answered.{Answered}
 
 -- A number alone is that number.
@@ -21,6 +21,9 @@ obeys-unique o m r r′ m′ m″ p q = (p .gives ∙ sym (q .gives), p .state �
 
 pub set-clock-unique : SetClockUnique
 set-clock-unique m clock r r′ m′ m″ p q = let u = obeys-unique (set-clock m clock) m _ _ m′ m″ p q in (same-number (u .0), u .1)
+
+pub set-date-change-unique : SetDateChangeUnique
+set-date-change-unique m time r r′ m′ m″ p q = let u = obeys-unique (set-date-change m time) m _ _ m′ m″ p q in (same-number (u .0), u .1)
 
 pub tick-unique : TickUnique
 tick-unique m r r′ m′ m″ p q = let u = obeys-unique (tick-clock m) m _ _ m′ m″ p q in (same-number (u .0), u .1)

@@ -11,6 +11,7 @@ use Rattle.frame.specs.Ground.{within, every}
 use Rattle.frame.proofs.Ground.{never, both-true, within-true, pick-case}
 use Rattle.content.specs.Content.{is-content}
 use Rattle.calendar.specs.Clock.{is-real}
+use Rattle.calendar.specs.DateChange.{is-time}
 use Rattle.printer.specs.Counter.{Counter, valid-counter}
 use Rattle.printer.specs.Jet.{Jet, has-jet, has-message, message, valid-message, valid-jet}
 use Rattle.printer.specs.State.{Printer, empty-jet, jet-at, valid, valid-jets, valid-state, printer-of, state-size}
@@ -31,9 +32,14 @@ pub valid-clock : (p : Printer) → valid p ≡ true → is-real (p .clock) ≡ 
 unfolding valid
 valid-clock p v = both-true _ _ (both-true (within 1 4 (p .model)) _ v .1) .0
 
+pub valid-time : (p : Printer) → valid p ≡ true → is-time (p .date-change) ≡ true
+unfolding valid
+valid-time p v = both-true _ _ (both-true (is-real (p .clock)) _ (both-true (within 1 4 (p .model)) _ v .1) .1) .0
+
 pub valid-row : (p : Printer) → valid p ≡ true → valid-jets p ≡ true
 unfolding valid
-valid-row p v = both-true (is-real (p .clock)) _ (both-true (within 1 4 (p .model)) _ v .1) .1
+valid-row p v =
+    both-true (is-time (p .date-change)) _ (both-true (is-real (p .clock)) _ (both-true (within 1 4 (p .model)) _ v .1) .1) .1
 
 -- What holds of every one of a row holds of the one at a place, and behind the row of what is given there.
 pub every-at : {A : Type 0} (f : ℕ → A → Bool) (n i : ℕ) (xs : List A) (d : A) {m : ℕ} → m ≡ n + i → every f n xs ≡ true → f m d ≡ true

@@ -13,10 +13,10 @@ use Rattle.frame.proofs.Ground.{both-true, length-each}
 use Rattle.printer.specs.Number.{in-bytes}
 use Rattle.printer.specs.Counter.{Counter, is-set, valid-counter, counter-bytes}
 use Rattle.printer.specs.Jet.{Jet, has-jet, message, valid-message, valid-jet, jet-bytes}
-use Rattle.printer.specs.State.{Printer, empty-jet, jet-at, valid, valid-state, printer-of, bytes-of}
+use Rattle.printer.specs.State.{Printer, empty-jet, jet-at, with-jets, valid, valid-state, printer-of, bytes-of}
 use Rattle.printer.specs.BytesLaws.{SizedJet, AllOf, Sized}
-use Rattle.printer.proofs.Valid.{valid-model, valid-clock, valid-row, valid-at, jet-short, jet-counter}
-use Rattle.printer.proofs.BytesLaws.{printer-back, valid-bytes, sized-fresh}
+use Rattle.printer.proofs.Valid.{valid-model, valid-clock, valid-time, valid-row, valid-at, jet-short, jet-counter}
+use Rattle.printer.proofs.BytesLaws.{printer-back, valid-bytes, sized-fresh, time-sized}
 use Rattle.printer.proofs.Rows.{every-each, each-beside}
 use Rattle.printer.proofs.Counters.{valid-tells, tells-valid, set-one}
 use Rattle.printer.proofs.StateLaws.{parts-valid, present-tells, tells-present}
@@ -30,7 +30,7 @@ abbrev trimmed-jet : Jet → Jet
 trimmed-jet j = record { length = j .length; content = j .content; general = j .general; counter = trimmed-counter (j .counter) }
 
 abbrev trimmed : Printer → Printer
-trimmed p = record { model = p .model; clock = p .clock; jets = each (λ (n : ℕ) (j : Jet). trimmed-jet j) 1 (p .jets) }
+trimmed p = with-jets p (each (λ (n : ℕ) (j : Jet). trimmed-jet j) 1 (p .jets))
 
 -- It has the same bytes.
 three-bytes : (n : ℕ) → in-bytes 3 (n % 16_777_216) ≡ in-bytes 3 n
@@ -88,7 +88,7 @@ jet-stays false j v = absent-same j ∙ v
 
 trimmed-valid : (p : Printer) → valid p ≡ true → valid (trimmed p) ≡ true
 trimmed-valid p e =
-    parts-valid (trimmed p) (valid-model p e) (valid-clock p e)
+    parts-valid (trimmed p) (valid-model p e) (valid-clock p e) (valid-time p e)
     (every-each (λ (n : ℕ) (j : Jet). valid-jet (has-jet (p .model) n) j) (λ (n : ℕ) (j : Jet). trimmed-jet j)
     (λ n j w. jet-stays (has-jet (p .model) n) j w) 1 (p .jets) (valid-row p e))
 
@@ -124,6 +124,7 @@ module _ (p : Printer) (v : valid p ≡ true) (r : Rooms p) where
       record {
         model = z .model;
         clock = z .clock;
+        date-change = time-sized (p .date-change) (valid-time p v);
         four = length-each (λ (n : ℕ) (j : Jet). trimmed-jet j) 1 (p .jets) ∙ four;
         jets = all-of SizedJet empty-jet (trimmed p .jets) (λ i. subst (λ (k : ℕ). SizedJet (getD (trimmed p .jets) k empty-jet)) (back i) (sized-at (suc i) (omega arith)));
       }

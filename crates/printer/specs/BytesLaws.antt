@@ -9,17 +9,19 @@ use lib.ListN.{length, getD}
 use Rattle.frame.specs.Ground.{within, each}
 use Rattle.content.specs.Content.{longest-message}
 use Rattle.calendar.specs.Clock.{is-real}
+use Rattle.calendar.specs.DateChange.{is-time}
 use Rattle.printer.specs.Counter.{Counter}
 use Rattle.printer.specs.Jet.{Jet, good-parameters, with-message, with-parameters}
-use Rattle.printer.specs.State.{Printer, state-size, with-jet, with-clock, fresh-printer, printer-of, bytes-of, valid, valid-state}
+use Rattle.printer.specs.State.{Printer, state-size, with-jet, with-jets, with-clock, with-date-change, fresh-printer, printer-of, bytes-of, valid, valid-state}
 use Rattle.printer.specs.Print.{counted-jets}
 use Rattle.calendar.specs.declared.clock.Clock.{Clock}
+use Rattle.calendar.specs.declared.date_change.TimeOfDay.{TimeOfDay}
 
 -- Lists of bytes are lists of numbers here; each is a byte.
 abbrev pub AllBytes : List ℕ → Type 0
 AllBytes m = (i : ℕ) → getD m i 0 < 256
 
--- A printer that its bytes have room for: a byte for the type and each part of the moment; in each of the four jets 2 bytes for the
+-- A printer that its bytes have room for: a byte for the type, each part of the moment and of the date change; in each of the four jets 2 bytes for the
 -- length, 512 of content, 11 general ones, and in its counter 26 of settings, 1 for whether it is set, 4 for the value, 3 for the batch.
 pub record SizedCounter (c : Counter) : Type 0 where
   pub settings : length (c .settings) ≡ 26
@@ -49,13 +51,18 @@ pub record SizedMoment (c : Clock) : Type 0 where
   pub month : c .date .month < 256
   pub year : c .date .year < 256
 
+pub record SizedTime (t : TimeOfDay) : Type 0 where
+  pub hour : t .hour < 256
+  pub minute : t .minute < 256
+
 pub record Sized (p : Printer) : Type 0 where
   pub model : p .model < 256
   pub clock : SizedMoment (p .clock)
+  pub date-change : SizedTime (p .date-change)
   pub four : length (p .jets) ≡ 4
   pub jets : SizedJets (p .jets)
 
--- Reading 2,243 bytes and writing what was read gives the same bytes, whatever they are.
+-- Reading 2,245 bytes and writing what was read gives the same bytes, whatever they are.
 abbrev pub StateBack : Type 0
 StateBack = (m : List ℕ) → length m ≡ state-size → AllBytes m → bytes-of (printer-of m) ≡ m
 
@@ -72,15 +79,15 @@ SameBytes =
 abbrev pub PrinterBack : Type 0
 PrinterBack = (p : Printer) → Sized p → printer-of (bytes-of p) ≡ p
 
--- It has 2,243 bytes, which are a valid state where the printer is valid.
+-- It has 2,245 bytes, which are a valid state where the printer is valid.
 abbrev pub BytesFull : Type 0
 BytesFull = (p : Printer) → Sized p → length (bytes-of p) ≡ state-size
 
 abbrev pub ValidBytes : Type 0
 ValidBytes = (p : Printer) → Sized p → valid-state (bytes-of p) ≡ valid p
 
--- What is read of bytes has room there again, and so has a fresh printer, and a printer with another jet, with another moment, or with
--- each of its jets changed.
+-- What is read of bytes has room there again, and so has a fresh printer, and a printer with another jet, with another moment or date
+-- change, or with each of its jets changed.
 abbrev pub SizedOf : Type 0
 SizedOf = (m : List ℕ) → length m ≡ state-size → AllBytes m → Sized (printer-of m)
 
@@ -94,12 +101,15 @@ SizedWithJet = (p : Printer) (n : ℕ) (j : Jet) → Sized p → SizedJet j → 
 abbrev pub SizedClock : Type 0
 SizedClock = (p : Printer) (clock : Clock) → Sized p → is-real clock ≡ true → Sized (with-clock p clock)
 
+abbrev pub SizedDateChange : Type 0
+SizedDateChange = (p : Printer) (time : TimeOfDay) → Sized p → is-time time ≡ true → Sized (with-date-change p time)
+
 abbrev pub SizedEach : Type 0
 SizedEach =
     (p : Printer) (f : ℕ → Jet → Jet) →
     ((n : ℕ) (j : Jet) → SizedJet j → SizedJet (f n j)) →
     Sized p →
-    Sized (record { model = p .model; clock = p .clock; jets = each f 1 (p .jets) })
+    Sized (with-jets p (each f 1 (p .jets)))
 
 -- So has a jet with another message or with other parameters, and a valid state behind a print.
 abbrev pub SizedMessage : Type 0

@@ -1,4 +1,4 @@
--- The other calls of the box: a fresh printer, setting the clock, and a tick.
+-- The other calls of the box: a fresh printer, setting the clock and the date change, and a tick.
 use Prim.Native.Nat.{ℕ}
 use mathlib.Core.List.{List, [], _∷_}
 use mathlib.Core.Path.{_≡_}
@@ -7,9 +7,11 @@ use lib.ListN.{length}
 use Rattle.frame.specs.Ground.{Test, given, within, pick, plain, test, checked}
 use Rattle.frame.specs.declared.given.Given.{Given}
 use Rattle.calendar.specs.Clock.{is-real, date, moment, tick}
-use Rattle.printer.specs.State.{Printer, valid-state, printer-of, bytes-of, state-size, fresh-printer, with-clock}
+use Rattle.calendar.specs.DateChange.{is-time}
+use Rattle.printer.specs.State.{Printer, valid-state, printer-of, bytes-of, state-size, fresh-printer, with-clock, with-date-change}
 use Rattle.printer.specs.Order.{Order, change}
 use Rattle.calendar.specs.declared.clock.Clock.{Clock}
+use Rattle.calendar.specs.declared.date_change.TimeOfDay.{TimeOfDay}
 
 -- 01, Other calls: "both give the fresh type 1 at 1 January 2000, midnight".
 abbrev pub first-printer : Printer
@@ -30,6 +32,11 @@ size-tests m model clock = test (eqb (length m) state-size) 1 ∷ fresh-tests mo
 unfoldable pub set-clock : List ℕ → Clock → Order
 set-clock m clock =
     change (test (valid-state m) 1 ∷ test (is-real clock) 15 ∷ []) (with-clock (printer-of m) clock)
+
+-- 02, Wish 5: "A call sets HHMM"; "15 also for an HHMM that is no time of day, state unchanged".
+unfoldable pub set-date-change : List ℕ → TimeOfDay → Order
+set-date-change m time =
+    change (test (valid-state m) 1 ∷ test (is-time time) 15 ∷ []) (with-date-change (printer-of m) time)
 
 unfoldable pub tick-clock : List ℕ → Order
 tick-clock m = change (test (valid-state m) 1 ∷ []) (with-clock (printer-of m) (tick (printer-of m .clock)))

@@ -22,10 +22,13 @@ use Rattle.content.specs.Grammar.{Tree, encode, good-tree, outline, resolved, s
 use Rattle.content.specs.Marks.{tree-letters, tree-marks}
 use Rattle.content.specs.Tree.{tree-of}
 use Rattle.content.specs.declared.position.Mark.the-variants.{Structure}
-use Rattle.calendar.specs.Clock.{clock-text, entries, table-text}
+use Rattle.calendar.specs.Clock.{clock-text, entries, is-real, tick}
+use Rattle.calendar.specs.DateChange.{is-time, table-text}
+use Rattle.calendar.specs.DateChangeLaws.{StandsFor}
 use Rattle.printer.specs.Counter.{counter-text}
 use Rattle.printer.specs.Jet.{Jet, has-jet, has-message, message, parameters, with-message, with-parameters}
 use Rattle.printer.specs.State.{Printer, jet-at, printer-of, bytes-of, state-size, valid-state}
+use Rattle.printer.specs.BytesLaws.{AllBytes}
 use Rattle.library.specs.Record.{records}
 use Rattle.library.specs.Store.{body-of, held}
 use Rattle.library.specs.StoreLaws.{Stores}
@@ -34,21 +37,24 @@ use Rattle.printer.specs.Change.{parameters-in, address-in, edited-jet, 
 use Rattle.printer.specs.Messages.{valid-store, selected-jet, shown}
 use Rattle.printer.specs.Print.{ready, strips, values, counted-jets}
 use Rattle.printer.specs.Receive.{Handed, Outcome, outcome, kept, obeyed, order, refusal, answer-size, strips-size}
-use Rattle.printer.specs.Call.{Freshens, fresh, fresh-tests, set-clock, tick-clock}
+use Rattle.printer.specs.Call.{Freshens, fresh, fresh-tests, set-clock, set-date-change, tick-clock}
 use Rattle.calendar.specs.declared.clock.Clock.{Clock}
+use Rattle.calendar.specs.declared.date_change.TimeOfDay.{TimeOfDay}
 
 -- ---- Calls.
--- A call of the box: bytes handed in with a store and buffers of some sizes, a clock to be set, or a second that passes. 02, Wish 1: "a
--- fresh printer starts with any store, and another may be lent from call to call".
+-- A call of the box: bytes handed in with a store and buffers of some sizes, a clock or a date change to be set, or a second that passes. 02,
+-- Wish 1: "a fresh printer starts with any store, and another may be lent from call to call".
 pub data Call : Type 0 where
   hand-in : Handed → Call
   clock-set : Clock → Call
+  date-change-set : TimeOfDay → Call
   second-passes : Call
 
 -- The state behind a call, and behind a list of calls.
 abbrev pub after : List ℕ → Call → List ℕ
 after m (hand-in h) = kept (outcome m h) m
 after m (clock-set c) = left (set-clock m c) m
+after m (date-change-set t) = left (set-date-change m t) m
 after m second-passes = left (tick-clock m) m
 
 abbrev pub after-all : List ℕ → List Call → List ℕ
@@ -75,9 +81,12 @@ abbrev pub BadState : Type 0
 BadState =
     (m : List ℕ) (h : Handed) → both (valid-state m) (valid-store (h .store)) ≡ false → Untouched m (outcome m h) 1
 
--- So it is where the clock is set and where a second passes: 1, and no byte changes; and a fresh printer wants bytes of a state's size.
+-- So it is where the clock or the date change is set and where a second passes: 1, and no byte changes; and a fresh printer wants bytes of a state's size.
 pub record OtherCalls (m : List ℕ) : Type 0 where
   pub clock-set : (c : Clock) (r : ℕ) (m′ : List ℕ) → valid-state m ≡ false → Obeys (set-clock m c) m (plain r) m′ → (r ≡ 1) × (m′ ≡ m)
+  pub date-change-set :
+      (t : TimeOfDay) (r : ℕ) (m′ : List ℕ) → valid-state m ≡ false →
+      Obeys (set-date-change m t) m (plain r) m′ → (r ≡ 1) × (m′ ≡ m)
   pub second-passes : (r : ℕ) (m′ : List ℕ) → valid-state m ≡ false → Obeys (tick-clock m) m (plain r) m′ → (r ≡ 1) × (m′ ≡ m)
   pub fresh :
       (model : ℕ) (c : Clock) (r : ℕ) (m′ : List ℕ) → eqb (length m) state-size ≡ false →
@@ -197,7 +206,7 @@ abbrev pub frame-after : Printer → ℕ → List ℕ → List ℕ
 frame-after p identifier d =
     pick (eqb identifier 0x39) (frame 0x39 (counter-text (jet-in p d .counter)))
     (pick (eqb identifier 0x43) (frame 0x43 (parameters (jet-in p d) ++ message (jet-in p d)))
-    (pick (eqb identifier 0x52) (frame 0x52 table-text)
+    (pick (eqb identifier 0x52) (frame 0x52 (table-text (p .date-change)))
     (pick (eqb identifier 0xD6) (frame 0x9C (clock-text (p .clock))) [])))
 
 abbrev pub strips-after : Printer → ℕ → List (List ℕ)
@@ -239,6 +248,27 @@ ExactEffect =
 -- The state's bytes are then those of the printer that it becomes.
 abbrev pub EffectKept : Type 0
 EffectKept = (m : List ℕ) (h : Handed) → outcome m h .number ≡ 0 → kept (outcome m h) m ≡ bytes-of (outcome m h .printer)
+
+-- The calls that are handed no bytes of the line have exactly their effect too. 01, Parameters, counter, clock: "It moves by a call per second",
+-- "It may be set to any valid moment"; 02, Wish 5: "A call sets HHMM". Each sets what it is for, and every other part stays.
+pub record SetsAlone (p q : Printer) (c : Clock) (t : TimeOfDay) : Type 0 where
+  pub model : q .model ≡ p .model
+  pub clock : q .clock ≡ c
+  pub date-change : q .date-change ≡ t
+  pub jets : q .jets ≡ p .jets
+
+pub record Sets (m : List ℕ) : Type 0 where
+  pub clock-set :
+      (c : Clock) → is-real c ≡ true →
+      SetsAlone (printer-of m) (printer-of (after m (clock-set c))) c (printer-of m .date-change)
+  pub date-change-set :
+      (t : TimeOfDay) → is-time t ≡ true →
+      SetsAlone (printer-of m) (printer-of (after m (date-change-set t))) (printer-of m .clock) t
+  pub second-passes :
+      SetsAlone (printer-of m) (printer-of (after m second-passes)) (tick (printer-of m .clock)) (printer-of m .date-change)
+
+abbrev pub CallsSet : Type 0
+CallsSet = (m : List ℕ) → valid-state m ≡ true → AllBytes m → Sets m
 
 -- Buffers larger than the stated size change nothing.
 abbrev pub RoomEnough : Type 0
@@ -329,6 +359,7 @@ abbrev pub brought : ℕ → List ℕ → Call → Brought
 brought jet m (hand-in h) =
     pick (eqb (outcome m h .number) 0) (brought-in jet (h .store) (h .bytes) (received (h .bytes))) nothing
 brought jet m (clock-set c) = nothing
+brought jet m (date-change-set t) = nothing
 brought jet m second-passes = nothing
 
 -- "the last whole message accepted for that jet": what the calls bring, the latest, behind what was there before them.
@@ -375,11 +406,12 @@ pub record SameButMessage (j k : Jet) : Type 0 where
   pub general : k .general ≡ j .general
   pub counter : k .counter ≡ j .counter
 
--- "edits and updates change only the characters they address": an accepted 42h leaves type, clock and every other jet, and of its own jet
+-- "edits and updates change only the characters they address": an accepted 42h leaves type, clock, date change and every other jet, and of its own jet
 -- all but the bytes from the address on, as many as there are symbols; and these are characters of the message's tree.
 pub record Edited (p q : Printer) (d : List ℕ) : Type 0 where
   pub model : q .model ≡ p .model
   pub clock : q .clock ≡ p .clock
+  pub date-change : q .date-change ≡ p .date-change
   pub others : (jet : ℕ) → within 1 4 jet ≡ true → (jet ≡ jet-number d → ⊥) → jet-at q jet ≡ jet-at p jet
   pub elsewhere :
       (i : ℕ) → both (leb (address-in d) i) (ltb i (address-in d + length (drop 3 d))) ≡ false →
@@ -399,11 +431,12 @@ EditsOnlyAddressed =
     outcome m (full store s) .number ≡ 0 →
     Edited (printer-of m) (outcome m (full store s) .printer) (take n (drop 3 s))
 
--- An accepted update leaves type, clock and head 2, and on head 1 all but the characters of external fields. These, jet 1 before jet 2,
+-- An accepted update leaves type, clock, date change and head 2, and on head 1 all but the characters of external fields. These, jet 1 before jet 2,
 -- become the text, each its own character; 02, Wish 3: they are "exactly as many", so that none is left over and none is lost.
 pub record Updated (p q : Printer) (text : List ℕ) : Type 0 where
   pub model : q .model ≡ p .model
   pub clock : q .clock ≡ p .clock
+  pub date-change : q .date-change ≡ p .date-change
   pub second-head : (jet : ℕ) → within 3 4 jet ≡ true → jet-at q jet ≡ jet-at p jet
   pub elsewhere :
       (jet i : ℕ) → within 1 2 jet ≡ true →
@@ -435,11 +468,14 @@ PrintRefusedExactly =
     (m store rest : List ℕ) → valid-state m ≡ true → valid-store store ≡ true →
     outcome m (full store (print-frame rest)) .number ≡ pick (ready (printer-of m)) 0 11
 
--- The strip of a jet, with the lines and blocks of a content.
+-- The strip of a jet, with the lines and blocks of a content. 02, Wish 5: "At times before HHMM, the day and month in date items are those of
+-- the preceding calendar day".
 pub record Printed (p : Printer) (jet : ℕ) (content strip : List ℕ) : Type 0 where
   pub ends : (front : List ℕ) × (strip ≡ front ++ (0x0D ∷ []))
   pub same-shape : shape (tree-of strip) ≡ shape (tree-of content)
-  pub items : strip ≡ encode (resolved (values (entries (p .clock)) (jet-at p jet)) (tree-of (message (jet-at p jet))))
+  pub moment : Clock
+  pub stands : StandsFor (p .date-change) (p .clock) moment
+  pub items : strip ≡ encode (resolved (values (entries moment) (jet-at p jet)) (tree-of (message (jet-at p jet))))
 
 abbrev pub StripsPrinted : Type 0
 StripsPrinted =

@@ -15,17 +15,19 @@ use Rattle.printer.specs.Order.{Obeys}
 use Rattle.printer.specs.Change.{update-fields}
 use Rattle.printer.specs.Receive.{Handed, given-by, handing-tests, order, outcome}
 use Rattle.printer.specs.Messages.{Shows, show-tests}
-use Rattle.printer.specs.Call.{Freshens, set-clock, size-tests, tick-clock}
+use Rattle.printer.specs.Call.{Freshens, set-clock, set-date-change, size-tests, tick-clock}
 use Rattle.calendar.specs.declared.clock.Clock.{Clock}
+use Rattle.calendar.specs.declared.date_change.TimeOfDay.{TimeOfDay}
 
--- 01, Numbers: "Checked in this order". Of each frame, an update, the bytes handed in, a fresh printer, setting the clock, a tick, and what
--- the approval screen asks for.
+-- 01, Numbers: "Checked in this order". Of each frame, an update, the bytes handed in, a fresh printer, setting the clock and the date
+-- change, a tick, and what the approval screen asks for.
 pub record InOrder : Type 0 where
   pub frames : (p : Printer) (store : List ℕ) (identifier : ℕ) (d : List ℕ) → in-order (order p store identifier d .tests) ≡ true
   pub updates : (p : Printer) (text : List ℕ) → in-order (update-fields p text .tests) ≡ true
   pub handing : (m : List ℕ) (h : Handed) → in-order (handing-tests m h) ≡ true
   pub fresh : (m : List ℕ) (model : ℕ) (clock : Clock) → in-order (size-tests m model clock) ≡ true
   pub clock : (m : List ℕ) (clock : Clock) → in-order (set-clock m clock .tests) ≡ true
+  pub date-change : (m : List ℕ) (time : TimeOfDay) → in-order (set-date-change m time .tests) ≡ true
   pub tick : (m : List ℕ) → in-order (tick-clock m .tests) ≡ true
   pub show : (store : List ℕ) (n : ℕ) → in-order (show-tests store n) ≡ true
 
@@ -55,6 +57,10 @@ pub record CallsGiveFirst : Type 0 where
       (m : List ℕ) (clock : Clock) (r : ℕ) (m′ : List ℕ) →
       Obeys (set-clock m clock) m (plain r) m′ →
       FirstGiven (set-clock m clock .tests) (plain r)
+  pub date-change :
+      (m : List ℕ) (time : TimeOfDay) (r : ℕ) (m′ : List ℕ) →
+      Obeys (set-date-change m time) m (plain r) m′ →
+      FirstGiven (set-date-change m time .tests) (plain r)
   pub tick : (m : List ℕ) (r : ℕ) (m′ : List ℕ) → Obeys (tick-clock m) m (plain r) m′ → FirstGiven (tick-clock m .tests) (plain r)
   pub show :
       (store current : List ℕ) (n refused : ℕ) (r : List ℕ) → Shows store current n refused r → FirstGiven (show-tests store n) (plain refused)

@@ -9,9 +9,10 @@ use Rattle.content.specs.Content.{longest-message}
 use Rattle.content.specs.Strip.{strip}
 use Rattle.content.specs.declared.strip.Values.{Values}
 use Rattle.calendar.specs.Clock.{entries}
+use Rattle.calendar.specs.DateChange.{printed}
 use Rattle.printer.specs.Number.{digits}
 use Rattle.printer.specs.Jet.{Jet, has-message, message, has-parameters, valid-jet, counted-jet}
-use Rattle.printer.specs.State.{Printer, every-jet}
+use Rattle.printer.specs.State.{Printer, every-jet, with-jets}
 use Rattle.printer.specs.Order.{Order, unchanged}
 use Rattle.printer.specs.declared.jet.Question.{Question}
 use Rattle.printer.specs.declared.jet.Question.the-variants.{Valid, Ready}
@@ -35,13 +36,18 @@ values entries j = record { digits = digits (j .counter .value); entries = entri
 abbrev pub strip-of : List ℕ → Jet → List ℕ
 strip-of entries j = strip (values entries j) (message j)
 
+-- What the codes of date items stand for now. 02, Wish 5: "the day and month in date items are those of the preceding calendar day", before
+-- the date change.
+abbrev pub entries-now : Printer → List ℕ
+entries-now p = entries (printed (p .date-change) (p .clock))
+
 -- 01, What an accepted frame does: "94h writes the strips of all jets, ascending, one behind the other from the start of the strip
 -- buffer, then counts." A jet that the printer lacks has no message, and so no strip.
 abbrev pub strips : Printer → List (List ℕ)
-strips p = each (λ (n : ℕ) (j : Jet). strip-of (entries (p .clock)) j) 1 (p .jets)
+strips p = each (λ (n : ℕ) (j : Jet). strip-of (entries-now p) j) 1 (p .jets)
 
 abbrev pub counted-jets : Printer → Printer
-counted-jets p = record { model = p .model; clock = p .clock; jets = each (λ (n : ℕ) (j : Jet). counted-jet j) 1 (p .jets) }
+counted-jets p = with-jets p (each (λ (n : ℕ) (j : Jet). counted-jet j) 1 (p .jets))
 
 unfoldable pub print : Printer → Order
 print p = record { tests = test (ready p) 11 ∷ []; after = counted-jets p; store = unchanged; frame = []; strips = strips p }

@@ -15,7 +15,7 @@ use Rattle.content.specs.declared.test.Verdict.the-variants.{Good}
 use Rattle.printer.specs.Jet.{Jet, has-jet, message}
 use Rattle.printer.specs.State.{Printer, jet-at, valid}
 use Rattle.calendar.specs.Clock.{entries}
-use Rattle.printer.specs.Print.{ready, values, strips, counted-jets}
+use Rattle.printer.specs.Print.{ready, entries-now, values, strips, counted-jets}
 use Rattle.printer.specs.Receive.{strips-size}
 use Rattle.calendar.specs.declared.clock.Clock.{Clock}
 
@@ -35,7 +35,7 @@ pub record Means (v : Values) (s strip : List ℕ) : Type 0 where
 abbrev pub strip-at : List (List ℕ) → ℕ → List ℕ
 strip-at s n = getD s (n - 1) []
 
--- Of each jet on the printer: what its message stands for at the clock's moment, whichever jet it is.
+-- Of each jet on the printer: what its message stands for at the moment that is printed, whichever jet it is.
 abbrev pub StripMeaning : Type 0
 StripMeaning =
     (p : Printer) (n : ℕ) →
@@ -43,7 +43,7 @@ StripMeaning =
     valid p ≡ true →
     ready p ≡ true →
     has-jet (p .model) n ≡ true →
-    Means (values (entries (p .clock)) (jet-at p n)) (message (jet-at p n)) (strip-at (strips p) n)
+    Means (values (entries-now p) (jet-at p n)) (message (jet-at p n)) (strip-at (strips p) n)
 
 -- 01, On the wire: the length of a strip is "0 where none".
 abbrev pub NoStrip : Type 0
@@ -69,6 +69,7 @@ pub record SameButCount (j k : Jet) : Type 0 where
 pub record CountsOnly (p q : Printer) : Type 0 where
   pub model : q .model ≡ p .model
   pub clock : q .clock ≡ p .clock
+  pub date-change : q .date-change ≡ p .date-change
   pub jets : (n : ℕ) → SameButCount (jet-at p n) (jet-at q n)
 
 abbrev pub CountedKeeps : Type 0

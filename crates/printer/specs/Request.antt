@@ -3,7 +3,8 @@ use Prim.Native.Nat.{ℕ}
 use mathlib.Core.List.{List, [], _∷_, _++_}
 use Rattle.frame.specs.Ground.{Test, both, test}
 use Rattle.frame.specs.Build.{frame}
-use Rattle.calendar.specs.Clock.{clock-text, table-text}
+use Rattle.calendar.specs.Clock.{clock-text}
+use Rattle.calendar.specs.DateChange.{table-text}
 use Rattle.printer.specs.Counter.{counter-text}
 use Rattle.printer.specs.Jet.{Jet, has-message, message, has-parameters, parameters, jet-of}
 use Rattle.printer.specs.State.{Printer}
@@ -33,9 +34,9 @@ ask-counter p d = request-order Counter p d
 unfoldable pub ask-message : Printer → List ℕ → Order
 ask-message p d = request-order Message p d
 
--- 01, On the wire: 52h answers "frame 52h, 258 bytes", D6h "frame 9Ch, 22 bytes".
+-- 01, On the wire: 52h answers "frame 52h, 258 bytes", D6h "frame 9Ch, 22 bytes". 02, Wish 5: "52h answers HHMM; D6h stays the calendar."
 unfoldable pub ask-table : Printer → Order
-ask-table p = tell [] p (frame 0x52 table-text)
+ask-table p = tell [] p (frame 0x52 (table-text (p .date-change)))
 
 unfoldable pub ask-clock : Printer → Order
 ask-clock p = tell [] p (frame 0x9C (clock-text (p .clock)))

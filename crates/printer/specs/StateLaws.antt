@@ -1,4 +1,4 @@
--- What is true of states: a fresh printer is valid, setting the clock and a tick keep a valid state valid, and what replaces a jet, its
+-- What is true of states: a fresh printer is valid, setting the clock or the date change and a tick keep a valid state valid, and what replaces a jet, its
 -- message or its parameters leaves the rest as it was.
 use Prim.Native.Nat.{ℕ, _≤_}
 use mathlib.Core.Bool.{true}
@@ -7,10 +7,12 @@ use mathlib.Core.Path.{_≡_}
 use lib.ListN.{length}
 use Rattle.content.specs.Content.{is-content}
 use Rattle.calendar.specs.Clock.{is-real, tick}
+use Rattle.calendar.specs.DateChange.{is-time}
 use Rattle.printer.specs.Jet.{Jet, has-jet, has-message, message, valid-jet, good-parameters, with-message, with-parameters}
-use Rattle.printer.specs.State.{Printer, jet-at, with-jet, with-clock, valid}
+use Rattle.printer.specs.State.{Printer, jet-at, with-jet, with-clock, with-date-change, valid}
 use Rattle.printer.specs.Call.{first-printer, fresh}
 use Rattle.calendar.specs.declared.clock.Clock.{Clock}
+use Rattle.calendar.specs.declared.date_change.TimeOfDay.{TimeOfDay}
 
 -- 01, Other calls: "both give the fresh type 1 at 1 January 2000, midnight", which is valid.
 abbrev pub FirstValid : Type 0
@@ -20,14 +22,17 @@ FirstValid = valid first-printer ≡ true
 abbrev pub FreshValid : Type 0
 FreshValid = (model : ℕ) (clock : Clock) → valid (fresh model clock) ≡ true
 
--- A real moment and a tick lead from a valid state to a valid state.
+-- A real moment, a time of day and a tick lead from a valid state to a valid state.
 abbrev pub ClockValid : Type 0
 ClockValid = (p : Printer) (clock : Clock) → valid p ≡ true → is-real clock ≡ true → valid (with-clock p clock) ≡ true
+
+abbrev pub DateChangeValid : Type 0
+DateChangeValid = (p : Printer) (time : TimeOfDay) → valid p ≡ true → is-time time ≡ true → valid (with-date-change p time) ≡ true
 
 abbrev pub TickValid : Type 0
 TickValid = (p : Printer) → valid p ≡ true → valid (with-clock p (tick (p .clock))) ≡ true
 
--- A jet that is replaced is the new one; every other jet, the type and the clock are as they were.
+-- A jet that is replaced is the new one; every other jet, the type, the clock and the date change are as they were.
 abbrev pub JetAtWithJet : Type 0
 JetAtWithJet = (p : Printer) (n : ℕ) (j : Jet) → 1 ≤ n → n ≤ length (p .jets) → jet-at (with-jet p n j) n ≡ j
 

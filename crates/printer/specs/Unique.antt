@@ -6,20 +6,24 @@ use Rattle.frame.specs.Ground.{OneOutcome, plain}
 use Rattle.printer.specs.Order.{Order, Obeys}
 use Rattle.printer.specs.Messages.{Shows}
 use Rattle.printer.specs.Receive.{Receives}
-use Rattle.printer.specs.Call.{Freshens, set-clock, tick-clock}
+use Rattle.printer.specs.Call.{Freshens, set-clock, set-date-change, tick-clock}
 use Rattle.calendar.specs.declared.clock.Clock.{Clock}
+use Rattle.calendar.specs.declared.date_change.TimeOfDay.{TimeOfDay}
 use Rattle.printer.specs.declared.answer.Answered.{Answered}
 
 -- `fresh`.
 abbrev pub FreshensUnique : Type 0
 FreshensUnique = (m : List ℕ) (model : ℕ) (clock : Clock) → OneOutcome (Freshens m model clock)
 
--- `set_clock` and `tick` are the orders `set-clock` and `tick-clock`, and of every order this is true.
+-- `set_clock`, `set_date_change` and `tick` are the orders `set-clock`, `set-date-change` and `tick-clock`, and of every order this is true.
 abbrev pub ObeysUnique : Type 0
 ObeysUnique = (o : Order) (m : List ℕ) → OneOutcome (Obeys o m)
 
 abbrev pub SetClockUnique : Type 0
 SetClockUnique = (m : List ℕ) (clock : Clock) → OneOutcome (λ (r : ℕ). Obeys (set-clock m clock) m (plain r))
+
+abbrev pub SetDateChangeUnique : Type 0
+SetDateChangeUnique = (m : List ℕ) (time : TimeOfDay) → OneOutcome (λ (r : ℕ). Obeys (set-date-change m time) m (plain r))
 
 abbrev pub TickUnique : Type 0
 TickUnique = (m : List ℕ) → OneOutcome (λ (r : ℕ). Obeys (tick-clock m) m (plain r))

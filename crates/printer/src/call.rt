@@ -1,17 +1,19 @@
-// The other calls of the box: a fresh printer, setting the clock, and a tick.
+// The other calls of the box: a fresh printer, setting the clock and the date change, and a tick.
 use crate::state::STATE;
 use crate::state::clock;
 use crate::state::put_clock;
+use crate::state::put_date_change;
 use crate::state::put_fresh;
 use crate::state::valid_state;
 use calendar::clock::Clock;
 use calendar::clock::date_of;
 use calendar::clock::moment;
+use calendar::date_change::TimeOfDay;
 use content::byte::within;
 ghost use lib.ListN.{length};
 ghost use mathlib.Core.Path.{_≡_};
 ghost use Rattle.frame.specs.Ground.{plain};
-ghost use Rattle.printer.specs.Call.{Freshens, first-printer, set-clock, tick-clock};
+ghost use Rattle.printer.specs.Call.{Freshens, first-printer, set-clock, set-date-change, tick-clock};
 ghost use Rattle.printer.specs.Order.{Obeys};
 ghost use Rattle.printer.specs.State.{bytes-of, state-size};
 
@@ -53,6 +55,20 @@ pub fn set_clock(state: &mut [u8], clock: Clock) -> u8
         return 15;
     }
     put_clock(state, clock);
+    0
+}
+
+// Sets the date change to any time of day: 1 for a state that is not valid, 15 for what is no time of day.
+pub fn set_date_change(state: &mut [u8], time: TimeOfDay) -> u8
+    ensures { λ r. ⌜ Obeys (set-date-change (now (state .entry)) time) (now (state .entry)) (plain r) (now (state .exit)) ⌝ }
+{
+    if !valid_state(state) {
+        return 1;
+    }
+    if !time.is_time() {
+        return 15;
+    }
+    put_date_change(state, time);
     0
 }
 

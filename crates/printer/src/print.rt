@@ -9,8 +9,10 @@ use crate::jet::message;
 use crate::number::digits;
 use crate::state::JETS;
 use crate::state::clock;
+use crate::state::date_change;
 use crate::state::ready;
 use calendar::clock::entries;
+use calendar::date_change::printed;
 use content::strip::Values;
 use content::strip::put_strip;
 use frame::build::Built;
@@ -55,7 +57,7 @@ fn print_strips(state: &[u8], out: &mut [u8]) -> [usize; 4]
     requires { ⌜ (valid-state (now state) ≡ true) × (strips-size ≤ length (now out)) ⌝ }
     ensures { λ r. ⌜ (r ≡ map length (strips (printer-of (now (state .entry))))) × (now (out .exit) ≡ over (joined (strips (printer-of (now (state .entry))))) (now (out .entry))) ⌝ }
 {
-    let entries = entries(clock(state));
+    let entries = entries(printed(date_change(state), clock(state)));
     let mut lengths = [0; 4];
     let mut at = JETS;
     let mut behind = 0;

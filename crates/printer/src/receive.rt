@@ -72,7 +72,7 @@ fn obey_printer(
         return settle(plain(told.number), consumed, told.size, answer);
     }
     if identifier == 0x52 {
-        let told = ask_table(&mut answer[1..]);
+        let told = ask_table(state, &mut answer[1..]);
         return settle(plain(told.number), consumed, told.size, answer);
     }
     if identifier == 0x94 {

@@ -8,7 +8,8 @@ use crate::jet::has_parameters;
 use crate::jet::message;
 use crate::jet::parameters;
 use crate::state::clock;
-use calendar::clock::TABLE;
+use crate::state::date_change;
+use calendar::clock::CODES;
 use calendar::clock::clock_text;
 use frame::build::answer;
 use frame::build::lay;
@@ -23,7 +24,8 @@ ghost use mathlib.Core.Path.{_≡_};
 ghost use Rattle.frame.specs.Build.{frame};
 ghost use Rattle.content.specs.Content.{longest-message};
 ghost use Rattle.printer.specs.Answer.{Tells, TellsOrder, Untold};
-ghost use Rattle.calendar.specs.Clock.{clock-text, table-text};
+ghost use Rattle.calendar.specs.Clock.{clock-text};
+ghost use Rattle.calendar.specs.DateChange.{table-text};
 ghost use Rattle.printer.specs.Jet.{jet-of, jet-size};
 ghost use Rattle.printer.specs.Request.{TellsJet, request-order};
 ghost use Rattle.printer.specs.State.{printer-of, valid-state};
@@ -104,13 +106,17 @@ pub(crate) fn request_order(state: &[u8], what: Request, d: &[u8], out: &mut [u8
     }
 }
 
-// 52h.
-pub(crate) fn ask_table(out: &mut [u8]) -> Told
-    requires { ⌜ answer-size - 1 ≤ length (now out) ⌝ }
-    ensures { λ r. ⌜ Tells [] (frame 0x52 table-text) (now (out .entry)) r (now (out .exit)) ⌝ }
+// 52h: the four digits of the date change, and the codes behind them.
+pub(crate) fn ask_table(state: &[u8], out: &mut [u8]) -> Told
+    requires { ⌜ (valid-state (now state) ≡ true) × (answer-size - 1 ≤ length (now out)) ⌝ }
+    ensures { λ r. ⌜ Tells [] (frame 0x52 (table-text (printer-of (now (state .entry)) .date-change))) (now (out .entry)) r (now (out .exit)) ⌝ }
 {
-    let text = TABLE;
-    answer(out, 0x52, &text);
+    let change = date_change(state);
+    let digits = change.change_text();
+    let codes = CODES;
+    lay(&mut out[HEAD..], &digits);
+    lay(&mut out[HEAD + 4..], &codes);
+    wrap(out, 0x52, 258);
     Told {
         number: 0,
         size: 258 + AROUND,

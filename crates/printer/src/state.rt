@@ -1,4 +1,4 @@
-// The state: one lent slice, and the only room that knows where in it the type, the clock and each jet lie.
+// The state: one lent slice, and the only room that knows where in it the type, the clock, the date change and each jet lie.
 use crate::jet::JET;
 use crate::jet::JetNumber;
 use crate::jet::Question;
@@ -8,6 +8,8 @@ use crate::jet::jet_index;
 use crate::jet::jet_number;
 use calendar::clock::Clock;
 use calendar::clock::Date;
+use calendar::date_change::TimeOfDay;
+use calendar::date_change::time_of_day;
 use content::byte::within;
 ghost use Prim.Native.Nat.{_+_, _≤_};
 ghost use lib.ListN.{length, set};
@@ -16,8 +18,8 @@ ghost use Rattle.printer.specs.Print.{asked, ready};
 ghost use Rattle.printer.specs.State.{bytes-of, every-jet, fresh-printer, jet-place, printer-of, state-size, valid-state, with-clock};
 ghost use Rattle.printer.specs.Jet.{jet-size};
 
-// Where the first jet begins, behind type, seconds, minutes, hours, day, month and year (1 each).
-pub(crate) const JETS: usize = 7;
+// Where the first jet begins, behind type, seconds, minutes, hours, day, month and year, and the date change's hour and minute (1 each).
+pub(crate) const JETS: usize = 9;
 
 // How many bytes a state has, with its four jets.
 pub const STATE: usize = JETS + 4 * JET;
@@ -54,6 +56,14 @@ pub(crate) fn clock(state: &[u8]) -> Clock
     }
 }
 
+// The date change, read out.
+pub(crate) fn date_change(state: &[u8]) -> TimeOfDay
+    requires { ⌜ length (now state) ≡ state-size ⌝ }
+    ensures { λ r. ⌜ r ≡ printer-of (now (state .entry)) .date-change ⌝ }
+{
+    time_of_day(state[7], state[8])
+}
+
 // The date, written back.
 fn put_date(state: &mut [u8], date: Date)
     requires { ⌜ length (now state) ≡ state-size ⌝ }
@@ -73,6 +83,15 @@ pub(crate) fn put_clock(state: &mut [u8], clock: Clock)
     state[2] = clock.minute;
     state[3] = clock.hour;
     put_date(state, clock.date);
+}
+
+// The date change, written back.
+pub(crate) fn put_date_change(state: &mut [u8], time: TimeOfDay)
+    requires { ⌜ length (now state) ≡ state-size ⌝ }
+    ensures { λ _. ⌜ now (state .exit) ≡ set (set (now (state .entry)) 7 (time .hour)) 8 (time .minute) ⌝ }
+{
+    state[7] = time.hour;
+    state[8] = time.minute;
 }
 
 // Whether every jet of a state answers a question with yes.
@@ -108,6 +127,10 @@ pub(crate) fn valid_state(state: &[u8]) -> bool
     if !now.is_real() {
         return false;
     }
+    let change = date_change(state);
+    if !change.is_time() {
+        return false;
+    }
     every_jet(state, Question::Valid)
 }
 
@@ -119,7 +142,7 @@ pub(crate) fn ready(state: &[u8]) -> bool
     every_jet(state, Question::Ready)
 }
 
-// A printer of a type at a moment, with empty jets.
+// A printer of a type at a moment, with the date change at midnight and empty jets.
 pub(crate) fn put_fresh(state: &mut [u8], model: u8, clock: Clock)
     requires { ⌜ length (now state) ≡ state-size ⌝ }
     ensures { λ _. ⌜ now (state .exit) ≡ bytes-of (fresh-printer model clock) ⌝ }

@@ -7,6 +7,9 @@ use crate::show::given;
 use crate::show::number;
 use crate::show::text;
 use calendar::clock::Clock;
+use calendar::clock::clock_text;
+use calendar::date_change::TimeOfDay;
+use calendar::date_change::printed;
 use content::test::test;
 use frame::build::Built;
 use frame::build::build;
@@ -16,11 +19,12 @@ use frame::given::Where;
 use printer::answer::Answered;
 use printer::call::fresh;
 use printer::call::set_clock;
+use printer::call::set_date_change;
 use printer::call::tick;
 use printer::receive::receive;
 
 // The room for a state and for a store, and what of them and of the buffers is handed in.
-pub(crate) const ROOM: usize = 2_304;
+pub(crate) const ROOM: usize = 2_816;
 
 pub(crate) const SPACE: usize = 8_256;
 
@@ -187,6 +191,20 @@ pub(crate) fn set(state: &mut [u8], rooms: Rooms, clock: Clock) {
     number(set_clock(&mut state[0..n], clock));
 }
 
+// The date change set.
+pub(crate) fn change(state: &mut [u8], rooms: Rooms, time: TimeOfDay) {
+    let n = rooms.state;
+    if state.len() < n {
+        return;
+    }
+    number(set_date_change(&mut state[0..n], time));
+}
+
+// The moment that date items stand for, laid out as D6h's data.
+pub(crate) fn night(clock: Clock, time: TimeOfDay) {
+    bytes(&clock_text(printed(time, clock)));
+}
+
 // A tick.
 pub(crate) fn pass(state: &mut [u8], rooms: Rooms) {
     let n = rooms.state;
@@ -211,7 +229,8 @@ fn both_numbers(
     outcome(nothing);
 }
 
-// A state in each call: the numbers for 05h, for no bytes, for setting a moment that is not real, and for a tick.
+// A state in each call: the numbers for 05h, for no bytes, for setting a moment that is not real and a date change that is no time of day,
+// and for a tick.
 pub(crate) fn every_call(
     state: &mut [u8],
     store: &mut [u8],
@@ -219,9 +238,11 @@ pub(crate) fn every_call(
     strips: &mut [u8],
     rooms: Rooms,
     unreal: Clock,
+    untimely: TimeOfDay,
 ) {
     both_numbers(state, store, answer, strips, rooms);
     set(state, rooms, unreal);
+    change(state, rooms, untimely);
     pass(state, rooms);
 }
 

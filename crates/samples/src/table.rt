@@ -4,9 +4,11 @@ use crate::call::ROOM;
 use crate::call::Rooms;
 use crate::call::SPACE;
 use crate::call::STRIPS;
+use crate::call::change;
 use crate::call::every_call;
 use crate::call::frame;
 use crate::call::hand_in;
+use crate::call::night;
 use crate::call::pass;
 use crate::call::set;
 use crate::call::start;
@@ -37,6 +39,7 @@ use crate::text::number;
 use crate::text::small;
 use calendar::clock::Clock;
 use calendar::clock::Date;
+use calendar::date_change::time_of_day;
 use content::byte::within;
 use frame::build::lay;
 use frame::given::placed;
@@ -118,7 +121,15 @@ fn poke(line: &[u8], state: &mut [u8]) {
     lay(&mut state[at..], front(&s, n));
 }
 
-// The same, and the state in each call; then those bytes are as before.
+// Bytes of the state from a place on, as they were.
+fn restore(state: &mut [u8], at: usize, before: &[u8]) {
+    if state.len() < at {
+        return;
+    }
+    lay(&mut state[at..], front(before, DAMAGE));
+}
+
+// Bytes overwritten, and the state in each call; then those bytes are as before.
 fn damage(
     line: &[u8],
     rooms: Rooms,
@@ -141,8 +152,9 @@ fn damage(
         strips,
         rooms,
         moment(b"0 0 0 0 0 0", 0),
+        time_of_day(24, 0),
     );
-    lay(&mut state[at..], front(&before, DAMAGE));
+    restore(state, at, &before);
 }
 
 // A frame of the first byte and the others, or the console's line of them.
@@ -236,6 +248,14 @@ fn obey(
     }
     if begins(line, b"set") {
         set(state, rooms, moment(line, 1));
+        return;
+    }
+    if begins(line, b"change") {
+        change(state, rooms, time_of_day(small(line, 1), small(line, 2)));
+        return;
+    }
+    if begins(line, b"night") {
+        night(moment(line, 1), time_of_day(small(line, 7), small(line, 8)));
         return;
     }
     if begins(line, b"tick") {

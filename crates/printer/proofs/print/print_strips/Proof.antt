@@ -1,13 +1,14 @@
 -- `printer::print::print_strips` meets its contract: after n jets their strips lie one behind the other in the buffer, their lengths are noted, and there is room for the strips of the others.
 use Prim.Native.Nat.{_+_, _-_, _*_, _≤_}
-use mathlib.Core.Path.{_≡_, refl, _∙_, ap}
+use mathlib.Core.Path.{_≡_, refl, _∙_, ap, ap₂}
 use native.Mathlib.Omega.{arith}
 use borrow.Author.Needs.{needs}
 use lib.ListN.{length}
 use Rattle.frame.proofs.Lent.{laid-length, lent-room}
 use Rattle.calendar.specs.Clock.{entries}
+use Rattle.calendar.specs.DateChange.{printed}
 use Rattle.printer.specs.Jet.{has-jet, jet-size}
-use Rattle.printer.specs.State.{jet-at, printer-of}
+use Rattle.printer.specs.State.{jet-at, jets-place, printer-of}
 use Rattle.printer.specs.Print.{strips}
 use Rattle.printer.proofs.Memory.{part-full, jet-lent}
 use Rattle.printer.proofs.Prints.{Printed, printed-none, printed-more, printed-all, strip-next, four-strips}
@@ -16,19 +17,24 @@ use Rattle.printer.proofs.print.print_strips.Statement.{statement}
 use Rattle.printer.proofs.print.print_strips.Tie as tie
 
 abbrev Inv-loop : tie.InvT-loop
-Inv-loop state out₀ entries lengths₀ at₀ behind₀ n₀ out lengths at behind n = (n ≤ 4) × (at ≡ 7 + jet-size * n) × Printed (strips (printer-of state)) out₀ out lengths behind n
+Inv-loop state out₀ entries lengths₀ at₀ behind₀ n₀ out lengths at behind n = (n ≤ 4) × (at ≡ jets-place + jet-size * n) × Printed (strips (printer-of state)) out₀ out lengths behind n
 
 abbrev μ-loop : tie.MeasureT-loop
 μ-loop state out₀ entries lengths₀ at₀ behind₀ n₀ out lengths at behind n = 4 - n
 
+date-change-requires : tie.Need-date-change-requires Inv-loop μ-loop
+date-change-requires c κs =
+    let at-start = c .before .before in
+    valid-size (at-start .args .state .now) (at-start .pre .0)
+
 clock-requires : tie.Need-clock-requires Inv-loop μ-loop
 clock-requires c κs =
-    let s = c .before .before in
+    let s = c .before .before .before in
     valid-size (s .args .state .now) (s .pre .0)
 
 loop-holds : tie.Need-loop-holds Inv-loop μ-loop
 loop-holds c =
-    let at-start = c .before .before .before .before in
+    let at-start = c .before .before .before .before .before .before in
     (omega arith, refl, printed-none (strips (printer-of (at-start .args .state .now))) (at-start .args .out .now))
 
 add-end : tie.Need-add-end Inv-loop μ-loop
@@ -42,7 +48,7 @@ part-print-jet-start c = omega arith
 
 part-print-jet-end : tie.Need-part-print-jet-end Inv-loop μ-loop
 part-print-jet-end c =
-    let at-start = c .before .before .before .before .before .before in
+    let at-start = c .before .before .before .before .before .before .before .before in
     omega (arith, (valid-size (at-start .args .state .now) (at-start .pre .0)))
 
 sub-print-jet-2 : tie.Need-sub-print-jet-2 Inv-loop μ-loop
@@ -61,7 +67,7 @@ part-print-jet-end-2 c = omega arith
 print-jet-requires : tie.Need-print-jet-requires Inv-loop μ-loop
 print-jet-requires c κs =
     let at-loop = c .before .before .before in
-    let at-start = at-loop .before .before .before .before .before in
+    let at-start = at-loop .before .before .before .before .before .before .before in
     let l = at-loop .loop in (
       part-full (at-start .args .state .now) (l .at) (valid-size (at-start .args .state .now) (at-start .pre .0)) (omega arith),
       rw (jet-lent (at-start .args .state .now) (l .n + 1) (l .inv .1 ∙ omega arith) (omega arith) (omega arith))
@@ -95,14 +101,16 @@ loop-again c =
     let at-loop-test = at-print-jet .before .before .before in
     let at-loop = at-loop-test .before in
     let at-entries = at-loop .before in
-    let at-clock = at-entries .before in
-    let at-start = at-clock .before .before .before in
+    let at-printed = at-entries .before in
+    let at-clock = at-printed .before in
+    let at-date-change = at-clock .before in
+    let at-start = at-date-change .before .before .before in
     let l = at-loop .loop in (
       omega arith,
       omega arith,
       printed-more (at-print-jet .print-jet .result) (four-strips (at-start .args .state .now)) (at-start .pre .1)
           (at-loop-test .loop-test .taken) (l .inv .2)
-          (strip-next (at-start .args .state .now) (at-entries .entries .result) (at-loop-test .loop-test .taken) (l .inv .1) (at-entries .entries .ensures ∙ ap entries (at-clock .clock .ensures)))
+          (strip-next (at-start .args .state .now) (at-entries .entries .result) (at-loop-test .loop-test .taken) (l .inv .1) (at-entries .entries .ensures ∙ ap entries (at-printed .printed .ensures ∙ ap₂ printed (at-date-change .date-change .ensures) (at-clock .clock .ensures))))
           (at-print-jet .print-jet .ensures .count) (at-print-jet .print-jet .ensures .short) (at-print-jet .print-jet .ensures .bytes),
     )
 
@@ -111,7 +119,7 @@ same-length c = laid-length (c .before .loop .inv .2 .laid)
 
 returns : tie.Need-returns Inv-loop μ-loop
 returns c =
-    let at-start = c .before .before .before .before .before .before in
+    let at-start = c .before .before .before .before .before .before .before .before in
     let l = c .before .loop in
     printed-all (four-strips (at-start .args .state .now)) (c .loop-test .left) (l .inv .0) (l .inv .2)
 
@@ -121,7 +129,9 @@ print-strips-spec =
     (tie.spec
     Inv-loop
     μ-loop
+    date-change-requires
     clock-requires
+    (λ c κs. search needs)
     (λ c κs. search needs)
     loop-holds
     add-end

@@ -180,11 +180,18 @@ returns-6 c =
     (at-row (printer-of (at-start .args .state .now)) 0x43 (at-start .args .d .now) (at-if6 .if6 .taken)) (request-asks request.Message (printer-of (at-start .args .state .now)) (at-start .args .d .now)) (at-start .pre .0) (at-slice-known .slice-known .given) (at-start .pre .1)
     (at-request-order2 .request-order2 .ensures) (at-settle6 .before .before .plain2 .ensures) (at-settle6 .settle6 .ensures)
 
+ask-table-requires : tie.Need-ask-table-requires
+ask-table-requires c κs =
+    let at-if7 = c .before .before in
+    let at-if1 = at-if7 .before .before .before .before .before .before in
+    let at-start = at-if1 .before .before .before .before .before in
+    (at-start .pre .0, room (at-start .args .answer .now) (at-start .pre .1))
+
 settle-requires-7 : tie.Need-settle-requires-7
 settle-requires-7 c κs =
     let at-answer9 = c .before .before .before in
     let at-ask-table = at-answer9 .before in
-    let at-if3 = at-ask-table .before .before .before .before .before .before in
+    let at-if3 = at-ask-table .before .before .before .before .before .before .before in
     let at-start = at-if3 .before .before .before .before .before .before .before in
     told-fits (at-start .args .answer .now) (at-ask-table .ask-table .ensures) (omega arith) (at-answer9 .answer9 .given .1)
 
@@ -193,7 +200,7 @@ unfolding printer-order ask-table
 returns-7 c =
     let at-settle7 = c .before .before in
     let at-ask-table = at-settle7 .before .before .before .before .before in
-    let at-if7 = at-ask-table .before .before in
+    let at-if7 = at-ask-table .before .before .before in
     let at-if1 = at-if7 .before .before .before .before .before .before in
     let at-slice-known = at-if1 .before .before .before .before in
     let at-start = at-slice-known .before in
@@ -284,9 +291,10 @@ obey-printer-spec =
     (λ c. search needs)
     (λ c. search needs)
     (λ c. search needs)
-    (λ c κs. search needs)
+    ask-table-requires
     (λ c κs. search needs)
     settle-requires-7
+    (λ c. search needs)
     (λ c. search needs)
     returns-7
     (λ c κs. search needs)

@@ -1,51 +1,21 @@
 -- `printer::request::ask_message` meets its contract: its test is the rule's, and a message of 512 bytes at most leaves room for the
 -- parameters before it where the frame has them.
-use Prim.Native.Nat.{ℕ, _+_, _-_, _≤_}
-use mathlib.Core.Bool.{Bool}
-use mathlib.Core.List.{List, _++_, append-assoc}
+use Prim.Native.Nat.{ℕ, _≤_}
+use mathlib.Core.List.{List, _++_}
 use mathlib.Core.Path.{_≡_, sym, _∙_, ap, ap₂}
 use native.Mathlib.Omega.{arith}
 use borrow.Author.Needs.{needs}
-use borrow.Rule.Slice.PartMut.{midOf, putMid}
-use lib.ListN.{length, take, drop, length-append, length-take, length-drop, take-append-drop}
-use lib.Seq.{length-take-le}
-use Rattle.frame.specs.Ground.{over}
-use Rattle.frame.specs.Build.{frame, Lays, Wraps}
-use Rattle.frame.specs.declared.build.Built.{Built}
-use Rattle.frame.proofs.Ground.{laid-behind}
+use lib.ListN.{length, length-append, length-take, length-drop}
+use Rattle.frame.specs.Build.{frame}
 use Rattle.printer.specs.Counter.{counter-of}
 use Rattle.printer.specs.Jet.{message, parameters, jet-size, jet-of}
-use Rattle.printer.proofs.Orders.{denied, granted, here, end, holds, untold, wrapped, told-frame}
+use Rattle.printer.proofs.Orders.{denied, granted, here, end, holds, untold, framed, told-frame}
 use Rattle.printer.proofs.request.ask_message.Statement.{statement}
 use Rattle.printer.proofs.request.ask_message.Tie as tie
 
 parameters-long : (b : List ℕ) → length b ≡ jet-size → length (parameters (jet-of b)) ≡ 37
 unfolding jet-of counter-of
 parameters-long b full = simp (length-append, length-take, length-drop) (omega arith)
-
--- The parameters laid behind three bytes, the message behind them, and the frame around both.
-module _ (q text before : List ℕ) {last last′ after : List ℕ} {r r′ : Bool} {r″ : Built} (long : length q ≡ 37) (short : length text ≤ 512) (room : 553 ≤ length before)
-    (a : Lays (midOf 3 (length before - 3) before) q r last)
-    (b : let xs = putMid 3 (length before - 3) before last in Lays (midOf 40 (length xs - 40) xs) text r′ last′)
-    (c : let xs = putMid 3 (length before - 3) before last in Wraps (putMid 40 (length xs - 40) xs last′) 0x43 (37 + length text) r″ after) where
-  three : length (take 3 before) ≡ 3
-  three = length-take-le 3 before (omega arith)
-
-  forty : length (take 3 before ++ q) ≡ 40
-  forty = simp length-append (omega (arith, three))
-
-  first : putMid 3 (length before - 3) before last ≡ over (take 3 before ++ q) before
-  first =
-      laid-behind 3 (take 3 before) q before last r before three (omega arith)
-      (sym (ap (λ (k : ℕ). take 3 before ++ drop k before) three ∙ take-append-drop 3 before)) a
-
-  then : let xs = putMid 3 (length before - 3) before last in putMid 40 (length xs - 40) xs last′ ≡ over (take 3 before ++ (q ++ text)) before
-  then =
-      laid-behind 40 (take 3 before ++ q) text before last′ r′ (putMid 3 (length before - 3) before last) forty (omega arith) first b
-      ∙ simp append-assoc
-
-  around : after ≡ over (frame 0x43 (q ++ text)) before
-  around = wrapped 0x43 (take 3 before) (q ++ text) before c three then (simp length-append (omega arith)) (simp length-append (omega arith)) room
 
 message-short : (b : List ℕ) → jet-of b .length ≤ 512 → length (message (jet-of b)) ≤ 512
 message-short b h = simp length-take (omega arith)
@@ -79,7 +49,9 @@ returns-3 c =
     (holds (rw (granted (at-has-message .has-message .ensures) (at-if1 .if1 .left)) (granted (at-has-parameters .has-parameters .ensures) (at-if2 .if2 .left))) end)
     (ap₂ (λ (x y : List ℕ). frame 0x43 (x ++ y)) (sym q) (sym text))
     (simp length-append (omega (arith, long)))
-    (around (at-parameters .parameters .result .now) (at-message .message .result .now) (at-start .args .out .now) long (rw text (message-short _ (at-start .pre .1))) (at-start .pre .2) (at-lay .lay .ensures) (at-lay2 .lay2 .ensures) (at-wrap .wrap .ensures))
+    (framed 0x43 40 (at-parameters .parameters .result .now) (at-message .message .result .now) (at-start .args .out .now)
+    (omega (arith, long)) (omega (arith, long, rw (← text) at (message-short _ (at-start .pre .1)))) (at-start .pre .2)
+    (at-lay .lay .ensures) (at-lay2 .lay2 .ensures) (omega (arith, long)) (at-wrap .wrap .ensures))
 
 pub ask-message-spec : {M : Type 1} → statement M
 ask-message-spec =

@@ -5,16 +5,16 @@ use mathlib.Core.Path.{_≡_, refl, _∙_, ap}
 use native.Mathlib.Omega.{arith}
 use borrow.Author.Needs.{needs}
 use lib.ListN.{length, set, length-set, drop, replicate}
-use Rattle.printer.specs.State.{bytes-of}
+use Rattle.printer.specs.State.{bytes-of, state-size}
 use Rattle.printer.proofs.Memory.{zeros-next, zeros-end, zeros-fresh}
 use Rattle.printer.proofs.state.put_fresh.Statement.{statement}
 use Rattle.printer.proofs.state.put_fresh.Tie as tie
 
 abbrev Inv-loop : tie.InvT-loop
-Inv-loop state₀ model clock i₀ state i = (i ≤ 2243) × (length state ≡ 2243) × (state ≡ replicate i 0 ++ drop i state₀)
+Inv-loop state₀ model clock i₀ state i = (i ≤ state-size) × (length state ≡ state-size) × (state ≡ replicate i 0 ++ drop i state₀)
 
 abbrev μ-loop : tie.MeasureT-loop
-μ-loop state₀ model clock i₀ state i = 2243 - i
+μ-loop state₀ model clock i₀ state i = state-size - i
 
 loop-holds : tie.Need-loop-holds Inv-loop μ-loop
 loop-holds c = (search needs, search needs, refl)
@@ -36,7 +36,7 @@ returns c =
     let at-loop = at-put-clock .before .before .before in
     let at-start = at-loop .before .before in
     let w = at-loop .loop in
-    let zeros = w .inv .2 ∙ zeros-end (at-start .args .state .now) (w .i) 2243 (at-start .pre) (omega arith) in
+    let zeros = w .inv .2 ∙ zeros-end (at-start .args .state .now) (w .i) state-size (at-start .pre) (omega arith) in
     at-put-clock .put-clock .ensures ∙ ap bytes-of (zeros-fresh (at-start .args .model) (at-start .args .clock) zeros)
 
 pub put-fresh-spec : {M : Type 1} → statement M

@@ -8,7 +8,7 @@ use Rattle.samples.proofs.table.run.Tie as tie
 
 abbrev Inv-loop : tie.InvT-loop
 Inv-loop s state₀ store₀ kept₀ keptstore₀ answer₀ strips₀ rooms₀ at₀ state store kept keptstore answer strips rooms at =
-    (2304 ≡ length state) × (8256 ≡ length store) × (2304 ≡ length kept) × (8256 ≡ length keptstore) × (608 ≡ length answer) × (6400 ≡ length strips)
+    (2816 ≡ length state) × (8256 ≡ length store) × (2816 ≡ length kept) × (8256 ≡ length keptstore) × (608 ≡ length answer) × (6400 ≡ length strips)
 
 abbrev μ-loop : tie.MeasureT-loop
 μ-loop s state₀ store₀ kept₀ keptstore₀ answer₀ strips₀ rooms₀ at₀ state store kept keptstore answer strips rooms at = length s - at
