@@ -9,13 +9,13 @@ use borrow.Author.Tests.{leb-true, ltb-false}
 use lib.Dec.{leb}
 use lib.ListN.{length}
 use Rattle.frame.proofs.Ground.{never, both-true, pick-case, every-at}
+use Rattle.content.specs.StripLaws.{Printable}
 use Rattle.content.specs.Content.{verdict, is-good, is-content}
 use Rattle.content.specs.Strip.{strip}
 use Rattle.content.specs.declared.test.Verdict.{Verdict}
 use Rattle.content.specs.declared.test.Verdict.the-variants.{Good, Unfit}
 use Rattle.content.proofs.StripLaws.{strip-resolves, strip-ends, strip-is-content, strip-same-shape, strip-length}
 use Rattle.calendar.specs.Clock.{entries}
-use Rattle.calendar.specs.DateChange.{printed}
 use Rattle.printer.specs.Counter.{Counter, is-set, moved, counted}
 use Rattle.printer.specs.Jet.{Jet, has-jet, has-message, message, has-parameters, valid-message, valid-jet, counted-jet}
 use Rattle.printer.specs.State.{Printer, empty-jet, jet-at}
@@ -120,7 +120,7 @@ strips-fit p four e =
     omega (
       arith,
       joined-short (λ (n : ℕ) (j : Jet). valid-jet (has-jet (p .model) n) j) 1536 (λ (n : ℕ) (j : Jet). strip-of (entries-now p) j)
-          (λ n j w. strip-short (printed (p .date-change) (p .clock)) (has-jet (p .model) n) j w) 1 (p .jets) (valid-row p e),
+          (λ n j w. strip-short _ (has-jet (p .model) n) j w) 1 (p .jets) (valid-row p e),
     )
 
 pub no-strip : NoStrip
@@ -141,7 +141,7 @@ pub strip-meaning : StripMeaning
 strip-meaning p n four e r h =
     let j = jet-at p n in
     let good = content-good (message j) (jet-content _ j (valid-at p n e (on-row (p .model) n h .0)) (ready-at p n four r h .0)) .1 in
-    let v = values-printable (printed (p .date-change) (p .clock)) j in
+    let v : Printable (values (entries-now p) j) = values-printable _ j in
     rw (strip-there p n)
     (record {
       replaced = strip-resolves (values (entries-now p) j) (message j) good;
