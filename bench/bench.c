@@ -8,20 +8,24 @@ static __attribute__((noinline)) void paint(void) { volatile u8 a[DEEP]; for (si
 static __attribute__((noinline)) size depth(void) { volatile u8 a[DEEP]; size i = 0; while (i < DEEP && a[i] == PAINT) i++; return DEEP - i; }
 
 static struct box box, saved;
+static struct single single;                                   // what the receiver for single bytes holds
 static u8 store[8192], in[1024], answer[554], strips[6144];    // what documents 01 and 02 ask the caller for
 static u8 lent[sizeof store];                                  // the store that each call begins with
 static size n_in;
 static u8 asked;                                               // the number that the approval screen asks for
+static u8 byte;                                                // the single byte that comes
 static size floor_stack;
 
 static u32 sum(const u8 *s, size n) { u32 c = 0; for (size i = 0; i < n; i++) c = 31 * c + s[i]; return c; }
 // what a call said: its number, and behind a colon its place where it has one; of a receive also consumed, the lengths of the answer and
-// the four strips, and a sum over the store; of what is shown also its length and a sum over it
+// the four strips, and a sum over the store; of a single byte that too, and behind it how many bytes are held and a sum over them; of
+// silence what is held; of what is shown also its length and a sum over it
 static void report(const char *name, int what, size stack)
 {
     put("call "); put(name); put(" stack "); num(stack > floor_stack ? stack - floor_stack : 0); put(" said "); num(api_number());
     if (api_place() >= 0) { put(":"); num((u64)api_place()); }
-    if (what == 0) { for (int i = 0; i < 6; i++) { put(","); num(api_count(i)); } put(","); num(sum(store, sizeof store)); }
+    if (what == 0 || what == 8) { for (int i = 0; i < 6; i++) { put(","); num(api_count(i)); } put(","); num(sum(store, sizeof store)); }
+    if (what == 8 || what == 9) { put(","); if (api_drops(&single)) put("dropping"); else { num(api_held(&single)); put(","); num(sum(api_bytes(&single), api_held(&single))); } }
     if (what == 6) { put(","); num(shown_n); put(","); num(sum(shown, shown_n)); }
     put("\n");
 }
@@ -37,6 +41,8 @@ static __attribute__((noinline)) void perform(int what)
     case 5: api_build(strips, sizeof strips, 0x0A, in, n_in); break;
     case 6: api_shown(store, sizeof store, in, n_in, asked); break;
     case 7: api_set_date_change(&box); break;
+    case 8: api_take_byte(&box, store, sizeof store, &single, byte, answer, sizeof answer, strips, sizeof strips); break;
+    case 9: api_silence(&single); break;
     default: break;
     }
 }
@@ -105,6 +111,8 @@ static void keep(u8 last, size (*make)(u8 *))    // a store with messages of the
 }
 static void update(size n) { in[0] = 2; memset(in + 1, 'u', n); in[n + 1] = 3; n_in = n + 2; }
 static void again(void) { box = saved; memcpy(store, lent, sizeof store); }
+// so many bytes of what stands in the input are held, and the one behind them comes
+static void behind(size held) { again(); api_hold(&single, in, held); byte = in[held]; }
 static const u8 A[] = {0x01, 0x0A, 0x02, 0x38, 'I','M','A','J','E',' ', 0x01, 0x54, 'F','R','A','N','C','E', 0x0D};
 
 static void alone(void)     // the calls that are lent no store
@@ -118,6 +126,7 @@ static void alone(void)     // the calls that are lent no store
     n = mixed(in); n_in = n; measure("test-512-mixed", 4);
     n = mixed(in); n_in = n; in[n - 2] = 0x7F; measure("test-512-10", 4);
     memset(in, 7, 550); n_in = 550; measure("build-550", 5);
+    update(1022); behind(1023); measure("silence", 9);
 }
 static void with_store(void)
 {
@@ -160,6 +169,18 @@ static void with_store(void)
     again(); frame(0x0A, A, sizeof A); in[n_in - 1] ^= 1; measure("check-wrong", 0);
     again(); in[0] = 0x0A; in[1] = 9; in[2] = 9; n_in = 3; measure("too-long", 0);
     again(); store[sizeof store - 1] = 1; in[0] = 0x05; n_in = 1; measure("05-unformed", 0);
+    // single bytes: the last number says which one it is of the frame or update
+    d[0] = 1; n = plain(d + 1); frame(0x0A, d, 1 + n);
+    behind(0); measure("byte-0A", 8);
+    behind(258); measure("byte-0A-259", 8);
+    behind(516); measure("byte-0A-517", 8);
+    in[0] = 0x05; behind(0); measure("byte-05", 8);
+    frame(0x94, d, 0); behind(3); measure("byte-94-4", 8);
+    update(960); behind(961); measure("byte-02-962", 8);
+    update(1022); behind(1022); measure("byte-02-1023", 8);
+    in[1023] = 'u'; behind(1023); measure("byte-02-1024", 8);
+    again(); api_drop(&single); byte = 0x05; measure("byte-dropped", 8);
+    in[0] = 0x05; behind(1); measure("byte-unheld", 8);
     again(); n_in = plain(in); asked = 14; measure("shown-14", 6);
     again(); n_in = plain(in); asked = 78; measure("shown-78", 6);
     again(); n_in = plain(in); asked = 80; measure("shown-80", 6);
@@ -177,7 +198,7 @@ static void each(const char *stored, void (*calls)(void))    // the calls in six
 int bench_main(void)
 {
     put("size state "); num(sizeof box); put(" store "); num(sizeof store); put(" answer "); num(sizeof answer); put(" strips "); num(sizeof strips);
-    put(" input "); num(sizeof in); put("\n");
+    put(" input "); num(sizeof in); put(" holding "); num(sizeof single); put("\n");
     measure("empty", 99);
     keep(0, plain); each("none", alone); each("empty", with_store);
     keep(14, plain); each("14-plain", with_store);

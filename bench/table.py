@@ -38,12 +38,17 @@ def table(title, wanted):
 table("Instructions of the calls that are lent no store", ["none"])
 table("Instructions of the calls that are lent a store", [s for s in stores if s != "none"])
 
+# a program has one of the two receivers: the first is lent the bytes received, the second what is held between single bytes
 ram = {}
 for m in machines:
-    deep = max(f[1] for (k, _, _), f in worst.items() if k == m)
-    parts = [(w, sizes[m, "box", w]) for w in ("state", "store", "answer", "strips", "input")] + [("stack", deep)]
-    ram[m] = sum(n for _, n in parts)
-    print(f"RAM in all, {m}: " + " + ".join(f"{w} {n}" for w, n in parts) + f" = {ram[m]} bytes")
+    for words, lent, wanted in (
+        ("bursts", "input", lambda c: not c.startswith("byte-")),
+        ("single bytes", "holding", lambda c: True),
+    ):
+        deep = max(f[1] for (k, c, _), f in worst.items() if k == m and wanted(c))
+        parts = [(w, sizes[m, "box", w]) for w in ("state", "store", "answer", "strips", lent)] + [("stack", deep)]
+        ram[m] = max(ram.get(m, 0), sum(n for _, n in parts))
+        print(f"RAM in all, {m}, {words}: " + " + ".join(f"{w} {n}" for w, n in parts) + f" = {sum(n for _, n in parts)} bytes")
 
 def highest(m, wanted):
     """The highest ratio of the calls wanted, with call and store; and the highest in any one state, with that too."""

@@ -11,7 +11,7 @@ use Rattle.calendar.specs.declared.clock.Date.{Date}
 -- 01, Parameters, counter, clock: "00 to 99 for 2000 to 2099, Gregorian".
 unfoldable pub is-leap : ℕ → Bool
 is-leap year =
-    pick (eqb ((2000 + year) % 400) 0) true (pick (eqb ((2000 + year) % 100) 0) false (eqb ((2000 + year) % 4) 0))
+    pick (eqb ((2000 + year) % 4) 0) (pick (eqb ((2000 + year) % 100) 0) (eqb ((2000 + year) % 400) 0) true) false
 
 unfoldable pub days-in : ℕ → ℕ → ℕ
 days-in month year =

@@ -24,13 +24,13 @@ fn is_leap(year: u8) -> bool
     ensures { λ r. ⌜ r ≡ is-leap year ⌝ }
 {
     let y = 2000 + (year as u16);
-    if y % 400 == 0 {
-        return true;
-    }
-    if y % 100 == 0 {
+    if y % 4 != 0 {
         return false;
     }
-    y % 4 == 0
+    if y % 100 != 0 {
+        return true;
+    }
+    y % 400 == 0
 }
 
 fn days_in(month: u8, year: u8) -> u8

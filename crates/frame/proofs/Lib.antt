@@ -6,7 +6,9 @@ pub mod Numbers
 pub mod Heard
 pub mod Lent
 pub mod Told
+pub mod Held
 pub mod Samples
 pub mod NumberLaws
 pub mod Laws
+pub mod HoldingLaws
 pub mod Unique

@@ -1,5 +1,5 @@
 -- Every contract has one outcome: the answer is the rule's, and the bytes after go by the answer.
-use Rattle.frame.specs.Unique.{PlainUnique, PlacedUnique, WordsUnique, ReceivesUnique, LaysUnique, WrapsUnique, AnswersUnique, BuildsUnique}
+use Rattle.frame.specs.Unique.{PlainUnique, PlacedUnique, WordsUnique, ReceivesUnique, LaysUnique, WrapsUnique, AnswersUnique, BuildsUnique, IsHoldingUnique, SilenceUnique}
 
 pub plain-unique : PlainUnique
 plain-unique number r r′ p q = cc
@@ -24,3 +24,9 @@ answers-unique before identifier d r r′ after after′ p q = ((cc), (cc))
 
 pub builds-unique : BuildsUnique
 builds-unique before identifier d r r′ after after′ p q = ((cc), (cc))
+
+pub is-holding-unique : IsHoldingUnique
+is-holding-unique h buffer r r′ p q = cc
+
+pub silence-unique : SilenceUnique
+silence-unique h r r′ p q = cc

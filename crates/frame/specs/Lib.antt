@@ -6,6 +6,8 @@ pub mod Numbers
 pub mod Wire
 pub mod Receive
 pub mod Build
+pub mod Holding
 pub mod NumberLaws
 pub mod Laws
+pub mod HoldingLaws
 pub mod Unique

@@ -1,5 +1,6 @@
 -- Every contract has one outcome: two that meet it for the same inputs have the same answer and the same bytes after.
 use Prim.Native.Nat.{ℕ}
+use mathlib.Core.Bool.{Bool}
 use mathlib.Core.List.{List}
 use mathlib.Core.Path.{_≡_}
 use Rattle.frame.specs.Ground.{OneAnswer, OneOutcome, placed, plain}
@@ -7,6 +8,8 @@ use Rattle.frame.specs.declared.given.Given.{Given}
 use Rattle.frame.specs.Wire.{Words}
 use Rattle.frame.specs.Receive.{Receives}
 use Rattle.frame.specs.Build.{Lays, Wraps, Answers, Builds}
+use Rattle.frame.specs.Holding.{is-holding, silenced}
+use Rattle.frame.specs.declared.holding.Holding.{Holding}
 
 -- `plain` and `placed` have their rule's value as their contract.
 abbrev pub PlainUnique : Type 0
@@ -32,3 +35,10 @@ AnswersUnique = (before : List ℕ) (identifier : ℕ) (d : List ℕ) → OneOut
 
 abbrev pub BuildsUnique : Type 0
 BuildsUnique = (before : List ℕ) (identifier : ℕ) (d : List ℕ) → OneOutcome (Builds before identifier d)
+
+-- `is_holding` and `silence`.
+abbrev pub IsHoldingUnique : Type 0
+IsHoldingUnique = (h : Holding) (buffer : List ℕ) → OneAnswer (λ (r : Bool). r ≡ is-holding h buffer)
+
+abbrev pub SilenceUnique : Type 0
+SilenceUnique = (h : Holding) → OneAnswer (λ (r : Holding). r ≡ silenced h)

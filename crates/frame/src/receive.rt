@@ -10,6 +10,7 @@ use crate::wire::listed;
 use crate::wire::size_of;
 use crate::wire::word;
 ghost use Prim.Native.Nat.{_≤_};
+ghost use lib.ListN.{length};
 ghost use mathlib.Core.Path.{_≡_};
 ghost use Rattle.frame.specs.Receive.{Receives, data-length, framed, judged, run, text-space, updated};
 ghost use Rattle.frame.specs.Wire.{longest-data, update-closes};
@@ -50,15 +51,26 @@ pub enum Received {
     },
 }
 
-// How many bytes stand between the 02h and the first 03h that counts.
-fn update_size(s: &[u8]) -> usize
+// How many bytes behind the 02h there are for the 03h to stand among.
+fn text_size(s: &[u8]) -> usize
+    ensures { λ r. ⌜ r ≡ length (text-space (now (s .entry))) ⌝ }
+{
+    if s.len() == 0 {
+        return 0;
+    }
+    if s.len() <= TEXT {
+        return s.len() - 1;
+    }
+    TEXT
+}
+
+// How many bytes stand between the 02h and the first 03h that counts. One end for the loop, known before it: a test less for each byte.
+pub(crate) fn update_size(s: &[u8]) -> usize
     ensures { λ r. ⌜ r ≡ run update-closes (text-space (now (s .entry))) ⌝ }
 {
+    let end = text_size(s);
     let mut n = 0;
-    while n < TEXT {
-        if s.len() <= n + 1 {
-            return n;
-        }
+    while n < end {
         if s[n + 1] == 0x03 {
             return n;
         }

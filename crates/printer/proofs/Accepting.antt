@@ -24,9 +24,12 @@ use Rattle.printer.specs.Change.{set-message, set-parameters, set-both, 
 use Rattle.printer.specs.Messages.{valid-store, store-message, select-message}
 use Rattle.printer.specs.Request.{ask-counter, ask-message, ask-table, ask-clock}
 use Rattle.printer.specs.Print.{print}
-use Rattle.printer.specs.Receive.{Outcome, outcome, handled, obeyed, printer-order, order, enquire, refusal, done, answer-size, strips-size}
+use Rattle.printer.specs.Receive.{Outcome, outcome, handled, obeyed, printer-order, order, enquire, refusal, done, silent, answer-size, strips-size}
+use Rattle.frame.specs.Holding.{is-holding}
+use Rattle.frame.specs.declared.holding.Holding.the-variants.{Held, Dropping}
+use Rattle.printer.specs.Single.{HandedByte, joined-by, single, taken}
 use Rattle.printer.specs.OrderLaws.{numbered}
-use Rattle.printer.specs.Demands.{full, passes, printer-after, frame-after, strips-after, change-after, Effect, HasEffect, AcknowledgedExactly, ExactEffect, EffectKept, RoomEnough}
+use Rattle.printer.specs.Demands.{full, passes, printer-after, frame-after, strips-after, change-after, Effect, HasEffect, AcknowledgedExactly, ByteAsWhole, ExactEffect, EffectKept, RoomEnough}
 use Rattle.printer.proofs.OrderLaws.{fields-numbered, orders-numbered, update-stores}
 
 -- ---- An order: done where all its tests hold, and another number than 0 where one fails.
@@ -158,3 +161,22 @@ effect-kept m h e = rw (eq-eqb (outcome m h .number) 0 e)
 pub room-enough : RoomEnough
 unfolding outcome
 room-enough m h a b = rw (le-leb answer-size (h .answer-room) a, le-leb strips-size (h .strip-room) b)
+
+-- ---- A single byte that passes its own tests.
+held-whole : (m : List ℕ) (h : HandedByte) (n : ℕ) → valid-state m ≡ true → valid-store (h .store) ≡ true → is-holding (h .holding) (h .buffer) ≡ true
+    → leb answer-size (h .answer-room) ≡ true → leb strips-size (h .strip-room) ≡ true → h .holding ≡ Held n
+    → single m h ≡ taken (outcome m (full (h .store) (joined-by n (h .buffer) (h .byte))))
+unfolding single outcome
+held-whole m h n v w k a b e = rw (v, w, k, a, b, e) refl
+
+dropped-whole : (m : List ℕ) (h : HandedByte) → valid-state m ≡ true → valid-store (h .store) ≡ true → is-holding (h .holding) (h .buffer) ≡ true
+    → leb answer-size (h .answer-room) ≡ true → leb strips-size (h .strip-room) ≡ true → h .holding ≡ Dropping
+    → single m h ≡ taken (silent (printer-of m) 3)
+unfolding single
+dropped-whole m h v w k a b e = rw (v, w, k, a, b, e) refl
+
+pub byte-as-whole : ByteAsWhole
+byte-as-whole m h v w k a b =
+    let x = le-leb answer-size (h .answer-room) a in
+    let y = le-leb strips-size (h .strip-room) b in
+    record { held = λ n e. held-whole m h n v w k x y e; dropped = λ e. dropped-whole m h v w k x y e }

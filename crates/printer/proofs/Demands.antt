@@ -1,8 +1,9 @@
 -- The demands: each statement of specs/Demands, under its name in small letters, from the file that proves it.
 -- Demand 1.
-pub use Rattle.printer.proofs.Refusing.{bad-state, bad-state-elsewhere, short-buffer, refused-stays}
+pub use Rattle.printer.proofs.Refusing.{bad-state, bad-state-elsewhere, bad-byte, short-buffer, short-for-byte, refused-stays}
 -- Demand 2.
-pub use Rattle.printer.proofs.Accepting.{acknowledged-exactly, exact-effect, effect-kept, room-enough}
+pub use Rattle.printer.proofs.Accepting.{acknowledged-exactly, byte-as-whole, exact-effect, effect-kept, room-enough}
+pub use Rattle.printer.proofs.Bursts.{burst-as-whole}
 pub use Rattle.printer.proofs.Setting.{calls-set}
 pub use Rattle.printer.proofs.Building.{built-read-as-built}
 pub use Rattle.printer.proofs.Editing.{update-numbered}

@@ -23,9 +23,13 @@ use Rattle.printer.specs.Order.{Order, left}
 use Rattle.printer.specs.Change.{update-fields}
 use Rattle.printer.specs.Messages.{valid-store}
 use Rattle.printer.specs.Receive.{Handed, Outcome, outcome, handled, kept, obeyed, refusal, enquire, order, answer-size, strips-size}
+use Rattle.printer.specs.Single.{HandedByte, byte-handled, joined-by, single}
+use Rattle.frame.specs.Holding.{is-holding}
+use Rattle.frame.specs.declared.holding.Holding.{Holding}
+use Rattle.frame.specs.declared.holding.Holding.the-variants.{Held, Dropping}
 use Rattle.printer.specs.Call.{set-clock, set-date-change, tick-clock}
 use Rattle.printer.specs.OrderLaws.{numbered}
-use Rattle.printer.specs.Demands.{Call, hand-in, clock-set, date-change-set, second-passes, after, Brought, nothing, brought-by, brought-in, brought}
+use Rattle.printer.specs.Demands.{Call, hand-in, byte-comes, clock-set, date-change-set, second-passes, after, Brought, nothing, brought-by, brought-in, brought-with, brought}
 use Rattle.calendar.specs.declared.clock.Clock.{Clock}
 use Rattle.calendar.specs.declared.date_change.TimeOfDay.{TimeOfDay}
 use Rattle.printer.proofs.Valid.{valid-printer, valid-clock}
@@ -88,6 +92,22 @@ module _ (jet : ℕ) (m : List ℕ) (Q : List ℕ → Brought → Type 0) (same 
       unless-tells P (leb strips-size (h .strip-room)) _ _ (λ _. same) (λ _.
       handled-gives (h .store) s (received s) w refl (sound s)))))
 
+  byte-gives : (h : HandedByte) (holding : Holding) → valid-store (h .store) ≡ true → Gives (brought-with jet h holding) (byte-handled m h holding)
+  byte-gives h (Held n) w =
+      let s = joined-by n (h .buffer) (h .byte) in handled-gives (h .store) s (received s) w refl (sound s)
+  byte-gives h Dropping w = same
+
+  single-gives : (h : HandedByte) → Gives (brought-with jet h (h .holding)) (single m h)
+  unfolding single
+  single-gives h =
+      let P = Gives (brought-with jet h (h .holding)) in
+      unless-tells P (valid-state m) _ _ (λ _. same) (λ _.
+      unless-tells P (valid-store (h .store)) _ _ (λ _. same) (λ w.
+      unless-tells P (is-holding (h .holding) (h .buffer)) _ _ (λ _. same) (λ _.
+      unless-tells P (leb answer-size (h .answer-room)) _ _ (λ _. same) (λ _.
+      unless-tells P (leb strips-size (h .strip-room)) _ _ (λ _. same) (λ _.
+      byte-gives h (h .holding) w)))))
+
   clock-gives : (c : Clock) → Q (left (set-clock m c) m) nothing
   unfolding set-clock
   clock-gives c =
@@ -113,6 +133,7 @@ module _ (jet : ℕ) (m : List ℕ) (Q : List ℕ → Brought → Type 0) (same 
 
   pub one-call : (c : Call) → Q (after m c) (brought jet m c)
   one-call (hand-in h) = handed-gives h
+  one-call (byte-comes h) = single-gives h
   one-call (clock-set c) = clock-gives c
   one-call (date-change-set t) = date-change-gives t
   one-call second-passes = tick-gives

@@ -11,6 +11,7 @@ pub mod Valid
 pub mod Orders
 pub mod Said
 pub mod Prints
+pub mod Bytewise
 -- The laws, each file those of the statements of the same name; `Rows` has what they share, `Bodies` what a well-formed store tells.
 pub mod CounterLaws
 pub mod BytesLaws
@@ -39,4 +40,5 @@ pub mod Written
 pub mod Leading
 pub mod Following
 pub mod Reaching
+pub mod Bursts
 pub mod Demands

@@ -4,7 +4,7 @@ use mathlib.Core.Bool.{Bool, true, false, not}
 use mathlib.Core.List.{List, [], _∷_, _++_, append-nil}
 use mathlib.Core.Path.{_≡_, refl, sym, _∙_, ap}
 use lib.ListN.{take, drop}
-use Rattle.frame.specs.Ground.{Test, checked, given, pick, plain, test}
+use Rattle.frame.specs.Ground.{Test, all, checked, given, pick, plain, test}
 use Rattle.frame.specs.declared.given.Given.{Given}
 use Rattle.frame.specs.Numbers.{in-order}
 use Rattle.frame.specs.NumberLaws.{frame-tests, is-frame, not-whole, receive-tests, too-long}
@@ -21,9 +21,10 @@ use Rattle.printer.specs.Request.{ask-counter, ask-message, ask-table, a
 use Rattle.printer.specs.Print.{print}
 use Rattle.printer.specs.Call.{set-clock, set-date-change, tick-clock}
 use Rattle.printer.specs.Receive.{Handed, given-by, handled, handing-tests, obeyed, order, outcome, silent}
+use Rattle.printer.specs.Single.{HandedByte, byte-handled, byte-tests, single}
 use Rattle.printer.specs.State.{Printer, printer-of}
 use Rattle.printer.specs.NumberLaws.{CallsGiveFirst, InOrder, asked-tests, outcome-tests}
-use Rattle.printer.proofs.OrderLaws.{obeyed-given, printer-order-case, order-case}
+use Rattle.printer.proofs.OrderLaws.{checked-given, obeyed-given, printer-order-case, order-case}
 
 pub numbers-in-order : InOrder
 unfolding store-message select-message set-message set-parameters set-both edit-message update-fields ask-counter ask-message ask-table ask-clock print set-clock set-date-change tick-clock
@@ -35,6 +36,7 @@ numbers-in-order =
           (λ _. refl) (λ _. refl) (λ _. refl) (λ _. refl) (λ _. refl) (λ _. refl) (λ _. refl) (λ _. refl) (λ _ _. refl));
       updates = λ p text. refl;
       handing = λ m h. refl;
+      bytes = λ m h. refl;
       fresh = λ m model clock. refl;
       clock = λ m clock. refl;
       date-change = λ m time. refl;
@@ -114,9 +116,18 @@ asked-ordered m h (Frame i n c) =
     (λ _. ordered m h (print p .tests) refl refl)
     (λ _ _. ordered m h (ask-clock p .tests) refl refl))
 
+-- A byte whose own tests do not all hold.
+byte-given : (m : List ℕ) (h : HandedByte) → all (byte-tests m h) ≡ false → given-by (single m h) ≡ given (byte-tests m h)
+unfolding single
+byte-given m h e =
+    let same : Given → Given = λ g. g in
+    checked-map given-by (byte-tests m h) (λ (g : Given). silent (printer-of m) (g .number)) (byte-handled m h (h .holding))
+    ∙ checked-given (byte-tests m h) same (given-by (byte-handled m h (h .holding))) e
+
 pub calls-give-first : CallsGiveFirst
 calls-give-first =
     record {
+      byte = λ m h e. first-given (byte-tests m h) (given-by (single m h)) refl (byte-given m h e);
       receive = λ m h. first-given (outcome-tests m h) (given-by (outcome m h)) (asked-ordered m h (received (h .bytes))) (outcome-given m h);
       fresh = λ m model clock r m′ p. first-given _ (plain r) (numbers-in-order .fresh m model clock) (p .gives);
       clock = λ m clock r m′ p. first-given _ (plain r) (numbers-in-order .clock m clock) (p .gives);

@@ -28,10 +28,10 @@ use Rattle.printer.proofs.Printing.{print-refused-exactly, strips-print
 
 -- ---- Every state is valid.
 -- What is true of every state that is reached from a fresh printer of a type.
-record Reached (model : ℕ) (m : List ℕ) : Type 0 where
-  sound : valid-state m ≡ true
-  rooms : Rooms (printer-of m)
-  same-model : printer-of m .model ≡ model
+pub record Reached (model : ℕ) (m : List ℕ) : Type 0 where
+  pub sound : valid-state m ≡ true
+  pub rooms : Rooms (printer-of m)
+  pub same-model : printer-of m .model ≡ model
 
 written-reached : {model : ℕ} (q : Printer) → valid q ≡ true → length (q .jets) ≡ 4 → Rooms q → q .model ≡ model → Reached model (bytes-of q)
 written-reached q v four r e =
@@ -44,7 +44,7 @@ leads-reached {m = m} {q = q} r l =
     let four = four-jets m in
     written-reached q (leads-valid v four l) (leads-four four l) (leads-rooms v (r .rooms) l) (leads-model four l ∙ r .same-model)
 
-call-reached : {model : ℕ} {m : List ℕ} → Reached model m → (c : Call) → Reached model (after m c)
+pub call-reached : {model : ℕ} {m : List ℕ} → Reached model m → (c : Call) → Reached model (after m c)
 call-reached {model = model} {m = m} r c = one-call 1 m (λ (l : List ℕ) (b : Brought). Reached model l) r (λ q b l. leads-reached r l) c
 
 all-reached : {model : ℕ} (m : List ℕ) (calls : List Call) → Reached model m → Reached model (after-all m calls)

@@ -36,16 +36,22 @@ use Rattle.printer.specs.Order.{StoreChange, unchanged, storing, store-a
 use Rattle.printer.specs.Change.{parameters-in, address-in, edited-jet, update-fields, updated-head}
 use Rattle.printer.specs.Messages.{valid-store, selected-jet, shown}
 use Rattle.printer.specs.Print.{ready, strips, values, counted-jets}
-use Rattle.printer.specs.Receive.{Handed, Outcome, outcome, kept, obeyed, order, refusal, answer-size, strips-size}
+use Rattle.printer.specs.Receive.{Handed, Outcome, outcome, kept, obeyed, order, refusal, silent, answer-size, strips-size}
+use Rattle.printer.specs.Single.{HandedByte, joined-by, single, taken}
+use Rattle.frame.specs.Holding.{buffer-behind, holding-behind, is-holding}
+use Rattle.frame.specs.declared.holding.Holding.{Holding}
+use Rattle.frame.specs.declared.holding.Holding.the-variants as holdings
 use Rattle.printer.specs.Call.{Freshens, fresh, fresh-tests, set-clock, set-date-change, tick-clock}
 use Rattle.calendar.specs.declared.clock.Clock.{Clock}
 use Rattle.calendar.specs.declared.date_change.TimeOfDay.{TimeOfDay}
 
 -- ---- Calls.
--- A call of the box: bytes handed in with a store and buffers of some sizes, a clock or a date change to be set, or a second that passes. 02,
--- Wish 1: "a fresh printer starts with any store, and another may be lent from call to call".
+-- A call of the box: bytes handed in with a store and buffers of some sizes, a single byte with what is held before it, a clock or a date
+-- change to be set, or a second that passes. 02, Wish 1: "a fresh printer starts with any store, and another may be lent from call to call";
+-- so may another holding.
 pub data Call : Type 0 where
   hand-in : Handed → Call
+  byte-comes : HandedByte → Call
   clock-set : Clock → Call
   date-change-set : TimeOfDay → Call
   second-passes : Call
@@ -53,6 +59,7 @@ pub data Call : Type 0 where
 -- The state behind a call, and behind a list of calls.
 abbrev pub after : List ℕ → Call → List ℕ
 after m (hand-in h) = kept (outcome m h) m
+after m (byte-comes h) = kept (single m h) m
 after m (clock-set c) = left (set-clock m c) m
 after m (date-change-set t) = left (set-date-change m t) m
 after m second-passes = left (tick-clock m) m
@@ -100,6 +107,25 @@ ShortBuffer =
     (m : List ℕ) (h : Handed) → valid-state m ≡ true → valid-store (h .store) ≡ true →
     both (leb 554 (h .answer-room)) (leb 6144 (h .strip-room)) ≡ false →
     Untouched m (outcome m h) 2
+
+-- 02, Wish 6: "1 also for a holding that no burst leaves, then 2; both leave the byte untaken", and what is held and its buffer as they were.
+pub record UntouchedByte (m : List ℕ) (h : HandedByte) (number : ℕ) : Type 0 where
+  pub untouched : Untouched m (single m h) number
+  pub holding : holding-behind (h .holding) (single m h .number) ≡ h .holding
+  pub buffer : buffer-behind (h .holding) (h .buffer) (h .byte) (single m h .number) ≡ h .buffer
+
+abbrev pub BadByte : Type 0
+BadByte =
+    (m : List ℕ) (h : HandedByte) →
+    both (valid-state m) (both (valid-store (h .store)) (is-holding (h .holding) (h .buffer))) ≡ false →
+    UntouchedByte m h 1
+
+abbrev pub ShortForByte : Type 0
+ShortForByte =
+    (m : List ℕ) (h : HandedByte) →
+    valid-state m ≡ true → valid-store (h .store) ≡ true → is-holding (h .holding) (h .buffer) ≡ true →
+    both (leb 554 (h .answer-room)) (leb 6144 (h .strip-room)) ≡ false →
+    UntouchedByte m h 2
 
 -- A refused frame or update is answered 15h alone, and state and store stay; what is not whole is not answered.
 abbrev pub RefusedStays : Type 0
@@ -249,6 +275,22 @@ ExactEffect =
 abbrev pub EffectKept : Type 0
 EffectKept = (m : List ℕ) (h : Handed) → outcome m h .number ≡ 0 → kept (outcome m h) m ≡ bytes-of (outcome m h .printer)
 
+-- 02, Wish 6: demands 2 and 3 speak "of frames that begin where an identifier is expected (while it drops, none is), and here of a holding that
+-- some burst leaves": then what comes of a byte is what comes of all that is held with it, handed in together; the byte is consumed. While all
+-- is dropped it gets 3, and nothing comes of it.
+pub record AsWhole (m : List ℕ) (h : HandedByte) : Type 0 where
+  pub held :
+      (n : ℕ) → h .holding ≡ holdings.Held n →
+      single m h ≡ taken (outcome m (full (h .store) (joined-by n (h .buffer) (h .byte))))
+  pub dropped : h .holding ≡ holdings.Dropping → single m h ≡ taken (silent (printer-of m) 3)
+
+abbrev pub ByteAsWhole : Type 0
+ByteAsWhole =
+    (m : List ℕ) (h : HandedByte) →
+    valid-state m ≡ true → valid-store (h .store) ≡ true → is-holding (h .holding) (h .buffer) ≡ true →
+    554 ≤ h .answer-room → 6144 ≤ h .strip-room →
+    AsWhole m h
+
 -- The calls that are handed no bytes of the line have exactly their effect too. 01, Parameters, counter, clock: "It moves by a call per second",
 -- "It may be set to any valid moment"; 02, Wish 5: "A call sets HHMM". Each sets what it is for, and every other part stays.
 pub record SetsAlone (p q : Printer) (c : Clock) (t : TimeOfDay) : Type 0 where
@@ -355,9 +397,15 @@ brought-in jet store s Enquiry = nothing
 brought-in jet store s (Update n consumed) = nothing
 brought-in jet store s (Frame identifier n consumed) = brought-by jet store identifier (take n (drop 3 s))
 
+-- With a byte: what is held and the byte behind it; while all is dropped nothing.
+abbrev pub brought-with : ℕ → HandedByte → Holding → Brought
+brought-with jet h (holdings.Held n) = brought-in jet (h .store) (joined-by n (h .buffer) (h .byte)) (received (joined-by n (h .buffer) (h .byte)))
+brought-with jet h holdings.Dropping = nothing
+
 abbrev pub brought : ℕ → List ℕ → Call → Brought
 brought jet m (hand-in h) =
     pick (eqb (outcome m h .number) 0) (brought-in jet (h .store) (h .bytes) (received (h .bytes))) nothing
+brought jet m (byte-comes h) = pick (eqb (single m h .number) 0) (brought-with jet h (h .holding)) nothing
 brought jet m (clock-set c) = nothing
 brought jet m (date-change-set t) = nothing
 brought jet m second-passes = nothing

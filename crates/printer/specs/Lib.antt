@@ -10,6 +10,7 @@ pub mod Messages
 pub mod Request
 pub mod Print
 pub mod Receive
+pub mod Single
 pub mod Call
 -- What is true of them, as statements; the demands; that every contract has one outcome; the samples.
 pub mod CounterLaws
@@ -20,5 +21,6 @@ pub mod NumberLaws
 pub mod PrintLaws
 pub mod OutcomeLaws
 pub mod Demands
+pub mod Bursts
 pub mod Unique
 pub mod Samples

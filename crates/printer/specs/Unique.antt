@@ -9,7 +9,10 @@ use Rattle.printer.specs.Receive.{Receives}
 use Rattle.printer.specs.Call.{Freshens, set-clock, set-date-change, tick-clock}
 use Rattle.calendar.specs.declared.clock.Clock.{Clock}
 use Rattle.calendar.specs.declared.date_change.TimeOfDay.{TimeOfDay}
+use Rattle.frame.specs.declared.holding.Holding.{Holding}
+use Rattle.printer.specs.Single.{TakesByte}
 use Rattle.printer.specs.declared.answer.Answered.{Answered}
+use Rattle.printer.specs.declared.single.Taken.{Taken}
 
 -- `fresh`.
 abbrev pub FreshensUnique : Type 0
@@ -36,6 +39,15 @@ ReceivesUnique =
     Receives m store s answer strips r m′ store′ answer′ strips′ →
     Receives m store s answer strips r′ m″ store″ answer″ strips″ →
     (r ≡ r′) × (m′ ≡ m″) × (store′ ≡ store″) × (answer′ ≡ answer″) × (strips′ ≡ strips″)
+
+-- `take_byte`: the same, with what is held behind the byte and the buffer that it stands in.
+abbrev pub TakesByteUnique : Type 0
+TakesByteUnique =
+    (m store : List ℕ) (holding : Holding) (buffer : List ℕ) (byte : ℕ) (answer strips : List ℕ) (r r′ : Taken)
+    (m′ m″ store′ store″ buffer′ buffer″ answer′ answer″ strips′ strips″ : List ℕ) →
+    TakesByte m store holding buffer byte answer strips r m′ store′ buffer′ answer′ strips′ →
+    TakesByte m store holding buffer byte answer strips r′ m″ store″ buffer″ answer″ strips″ →
+    (r ≡ r′) × (m′ ≡ m″) × (store′ ≡ store″) × (buffer′ ≡ buffer″) × (answer′ ≡ answer″) × (strips′ ≡ strips″)
 
 -- `shown`: the number, and the bytes handed back.
 abbrev pub ShowsUnique : Type 0

@@ -9,4 +9,5 @@ pub mod number;
 pub mod print;
 pub mod receive;
 pub mod request;
+pub mod single;
 pub mod state;

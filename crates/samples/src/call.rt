@@ -31,6 +31,8 @@ pub(crate) const SPACE: usize = 8_256;
 pub(crate) struct Rooms {
     pub state: usize,
     pub store: usize,
+    // Of the buffer that single bytes are held in.
+    pub buffer: usize,
     pub answer: usize,
     pub strips: usize,
 }
@@ -41,7 +43,7 @@ pub(crate) const ANSWERS: usize = 608;
 pub(crate) const STRIPS: usize = 6_400;
 
 // A number that the box never gives: the table asks for more room than there is.
-fn impossible() -> Answered {
+pub(crate) fn impossible() -> Answered {
     Answered {
         number: 99,
         place: Where::Nowhere,
@@ -134,7 +136,15 @@ fn show_answer(answer: &mut [u8], done: Answered) {
     clear(answer, done.answer);
 }
 
-// Bytes handed in: the number with its place, the count consumed, the answer, and the strips that were written.
+// The number with its place, the count consumed, the answer, and the strips that were written.
+pub(crate) fn show_done(answer: &mut [u8], strips: &mut [u8], done: Answered) {
+    show_answer(answer, done);
+    let lengths = done.strips;
+    let end = all_strips(strips, lengths);
+    clear(strips, end);
+}
+
+// Bytes handed in.
 pub(crate) fn hand_in(
     state: &mut [u8],
     store: &mut [u8],
@@ -144,10 +154,7 @@ pub(crate) fn hand_in(
     rooms: Rooms,
 ) {
     let done = handed_in(state, store, s, answer, strips, rooms);
-    show_answer(answer, done);
-    let lengths = done.strips;
-    let end = all_strips(strips, lengths);
-    clear(strips, end);
+    show_done(answer, strips, done);
 }
 
 // The frame of an identifier and data, which stand in a row, handed in.

@@ -1,8 +1,10 @@
 // The table of samples: standard input is a line for each call, and each is written again with its outcome behind it.
+mod aboard;
 mod call;
 mod lower;
 mod shelf;
 mod show;
+mod single;
 mod table;
 mod text;
 

@@ -65,13 +65,13 @@ fn show(line: &[u8], store: &[u8], rooms: Rooms) {
     bytes(content);
 }
 
-// So many bytes of the store from a place on.
-fn look(line: &[u8], store: &[u8]) {
+// So many bytes of the store, or of another buffer, from a place on.
+pub(crate) fn look(line: &[u8], buffer: &[u8]) {
     let at = decimal(line, 1);
-    if store.len() < at {
+    if buffer.len() < at {
         return;
     }
-    bytes(front(&store[at..], decimal(line, 2)));
+    bytes(front(&buffer[at..], decimal(line, 2)));
 }
 
 // What stands at a place of some bytes: the number and the end of a record, or none.

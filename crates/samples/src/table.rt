@@ -1,4 +1,6 @@
 // The lines of the table, one after the other: what each of them says, and the call that it makes.
+use crate::aboard::aboard;
+use crate::aboard::make_up;
 use crate::call::ANSWERS;
 use crate::call::ROOM;
 use crate::call::Rooms;
@@ -31,6 +33,9 @@ use crate::show::front;
 use crate::show::same;
 use crate::show::text;
 use crate::show::unwritten;
+use crate::single::HELD;
+use crate::single::is_single;
+use crate::single::singly;
 use crate::text::BYTES;
 use crate::text::begins;
 use crate::text::byte_at;
@@ -44,6 +49,8 @@ use content::byte::within;
 use frame::build::lay;
 use frame::given::placed;
 use frame::given::plain;
+use frame::holding::HOLDING;
+use frame::holding::Holding;
 use library::store::STORE;
 use printer::answer::ANSWER;
 use printer::answer::STRIPS as STRIP_BUFFER;
@@ -269,15 +276,20 @@ fn obey(
     if asked(line, store, rooms) {
         return;
     }
+    if aboard(line) {
+        return;
+    }
     with_bytes(line, state, store, rooms, answer, strips);
 }
 
-// Whether state and store are those that were kept, and no byte of the buffers is written.
+// Whether state, store and what single bytes are held in are those that were kept, and no byte of the other buffers is written.
 fn all_same(
     state: &[u8],
     store: &[u8],
+    buffer: &[u8],
     kept: &[u8],
     kept_store: &[u8],
+    kept_buffer: &[u8],
     answer: &[u8],
     strips: &[u8],
 ) {
@@ -287,6 +299,10 @@ fn all_same(
     }
     if !same(store, kept_store) {
         text(b" no, the store");
+        return;
+    }
+    if !same(buffer, kept_buffer) {
+        text(b" no, the buffer of what is held");
         return;
     }
     if !unwritten(answer, 0) {
@@ -305,15 +321,18 @@ fn act(
     line: &[u8],
     state: &mut [u8],
     store: &mut [u8],
+    buffer: &[u8],
     rooms: Rooms,
     kept: &mut [u8],
     kept_store: &mut [u8],
+    kept_buffer: &mut [u8],
     answer: &mut [u8],
     strips: &mut [u8],
 ) {
     if begins(line, b"keep") {
         lay(kept, state);
         lay(kept_store, store);
+        lay(kept_buffer, buffer);
         return;
     }
     if prepared(line, store, kept_store) {
@@ -323,9 +342,22 @@ fn act(
         poke(line, state);
         return;
     }
+    if begins(line, b"ticks") {
+        make_up(line, state, rooms);
+        return;
+    }
     text(b" =");
     if begins(line, b"same") {
-        all_same(state, store, kept, kept_store, answer, strips);
+        all_same(
+            state,
+            store,
+            buffer,
+            kept,
+            kept_store,
+            kept_buffer,
+            answer,
+            strips,
+        );
         return;
     }
     obey(line, state, store, answer, strips, rooms);
@@ -337,6 +369,7 @@ fn rooms_from(line: &[u8], rooms: Rooms) -> Rooms {
         return Rooms {
             state: number(line, 1),
             store: rooms.store,
+            buffer: rooms.buffer,
             answer: rooms.answer,
             strips: rooms.strips,
         };
@@ -345,6 +378,16 @@ fn rooms_from(line: &[u8], rooms: Rooms) -> Rooms {
         return Rooms {
             state: rooms.state,
             store: number(line, 1),
+            buffer: rooms.buffer,
+            answer: rooms.answer,
+            strips: rooms.strips,
+        };
+    }
+    if begins(line, b"buffer") {
+        return Rooms {
+            state: rooms.state,
+            store: rooms.store,
+            buffer: number(line, 1),
             answer: rooms.answer,
             strips: rooms.strips,
         };
@@ -352,6 +395,7 @@ fn rooms_from(line: &[u8], rooms: Rooms) -> Rooms {
     Rooms {
         state: rooms.state,
         store: rooms.store,
+        buffer: rooms.buffer,
         answer: number(line, 1),
         strips: number(line, 2),
     }
@@ -387,59 +431,99 @@ fn is_room(line: &[u8]) -> bool {
     if begins(line, b"store") {
         return true;
     }
+    if begins(line, b"buffer") {
+        return true;
+    }
     begins(line, b"rooms")
 }
 
-// A line, and the rooms from there on.
+// What a line leaves to the next: the rooms, and what is held between single bytes.
+struct Left {
+    rooms: Rooms,
+    holding: Holding,
+}
+
+// A line, and what it leaves.
 fn turn(
     line: &[u8],
     state: &mut [u8],
     store: &mut [u8],
+    buffer: &mut [u8],
     kept: &mut [u8],
     kept_store: &mut [u8],
+    kept_buffer: &mut [u8],
     answer: &mut [u8],
     strips: &mut [u8],
-    rooms: Rooms,
-) -> Rooms {
+    before: Left,
+) -> Left {
+    let rooms = before.rooms;
+    let holding = before.holding;
     text(line);
     if is_title(line) {
         text(b"\n");
-        return rooms;
+        return before;
     }
     if is_room(line) {
         text(b"\n");
-        return rooms_from(line, rooms);
+        return Left {
+            rooms: rooms_from(line, rooms),
+            holding,
+        };
     }
-    act(line, state, store, rooms, kept, kept_store, answer, strips);
+    if is_single(line) {
+        let holding = singly(line, state, store, holding, buffer, answer, strips, rooms);
+        text(b"\n");
+        return Left { rooms, holding };
+    }
+    act(
+        line,
+        state,
+        store,
+        buffer,
+        rooms,
+        kept,
+        kept_store,
+        kept_buffer,
+        answer,
+        strips,
+    );
     text(b"\n");
-    rooms
+    before
 }
 
 pub(crate) fn run(s: &[u8]) {
     let mut state = [UNWRITTEN; ROOM];
     let mut store = [UNWRITTEN; SPACE];
+    let mut buffer = [UNWRITTEN; HELD];
     let mut kept = [0; ROOM];
     let mut kept_store = [0; SPACE];
+    let mut kept_buffer = [0; HELD];
     let mut answer = [UNWRITTEN; ANSWERS];
     let mut strips = [UNWRITTEN; STRIPS];
-    let mut rooms = Rooms {
-        state: STATE,
-        store: STORE,
-        answer: ANSWER,
-        strips: STRIP_BUFFER,
+    let mut left = Left {
+        rooms: Rooms {
+            state: STATE,
+            store: STORE,
+            buffer: HOLDING,
+            answer: ANSWER,
+            strips: STRIP_BUFFER,
+        },
+        holding: Holding::Held(0),
     };
     let mut at = 0;
     while at < s.len() {
         let end = line_end(s, at);
-        rooms = turn(
+        left = turn(
             &s[at..end],
             &mut state,
             &mut store,
+            &mut buffer,
             &mut kept,
             &mut kept_store,
+            &mut kept_buffer,
             &mut answer,
             &mut strips,
-            rooms,
+            left,
         );
         at = end + 1;
     }

@@ -39,9 +39,9 @@ pub(crate) fn word_at(line: &[u8], k: usize) -> usize {
     at
 }
 
-// A number with one digit more; digits behind the seventh are dropped.
+// A number with one digit more; digits behind the eighteenth are dropped.
 fn with_digit(n: usize, b: u8) -> usize {
-    if 99_999 < n {
+    if 99_999_999_999_999_999 < n {
         return n;
     }
     if b < 0x30 {
@@ -76,7 +76,19 @@ pub(crate) fn number(line: &[u8], k: usize) -> usize {
     decimal_at(line, word_at(line, k))
 }
 
-// The same, for a number of one byte.
+// More than eighteen digits can write.
+const LIMIT: usize = 1_000_000_000_000_000_000;
+
+// The same for a signed number; where a - stands before it -1, the only one below 0 that the table has.
+pub(crate) fn signed(line: &[u8], k: usize) -> i64 {
+    let at = word_at(line, k);
+    if byte_at(line, at) == b'-' {
+        return -1;
+    }
+    (decimal_at(line, at) % LIMIT) as i64
+}
+
+// And for a number of one byte.
 pub(crate) fn small(line: &[u8], k: usize) -> u8 {
     (number(line, k) % 256) as u8
 }

@@ -7,11 +7,11 @@ use Rattle.samples.proofs.table.run.Statement.{statement}
 use Rattle.samples.proofs.table.run.Tie as tie
 
 abbrev Inv-loop : tie.InvT-loop
-Inv-loop s state₀ store₀ kept₀ keptstore₀ answer₀ strips₀ rooms₀ at₀ state store kept keptstore answer strips rooms at =
-    (2816 ≡ length state) × (8256 ≡ length store) × (2816 ≡ length kept) × (8256 ≡ length keptstore) × (608 ≡ length answer) × (6400 ≡ length strips)
+Inv-loop s state₀ store₀ buffer₀ kept₀ keptstore₀ keptbuffer₀ answer₀ strips₀ left₀ at₀ state store buffer kept keptstore keptbuffer answer strips left at =
+    (2816 ≡ length state) × (8256 ≡ length store) × (1088 ≡ length buffer) × (2816 ≡ length kept) × (8256 ≡ length keptstore) × (1088 ≡ length keptbuffer) × (608 ≡ length answer) × (6400 ≡ length strips)
 
 abbrev μ-loop : tie.MeasureT-loop
-μ-loop s state₀ store₀ kept₀ keptstore₀ answer₀ strips₀ rooms₀ at₀ state store kept keptstore answer strips rooms at = length s - at
+μ-loop s state₀ store₀ buffer₀ kept₀ keptstore₀ keptbuffer₀ answer₀ strips₀ left₀ at₀ state store buffer kept keptstore keptbuffer answer strips left at = length s - at
 
 loop-holds : tie.Need-loop-holds Inv-loop μ-loop
 loop-holds c = search needs
@@ -46,6 +46,12 @@ slice-aggregate-turn-5 c = search needs
 slice-aggregate-turn-6 : tie.Need-slice-aggregate-turn-6 Inv-loop μ-loop
 slice-aggregate-turn-6 c = search needs
 
+slice-aggregate-turn-7 : tie.Need-slice-aggregate-turn-7 Inv-loop μ-loop
+slice-aggregate-turn-7 c = search needs
+
+slice-aggregate-turn-8 : tie.Need-slice-aggregate-turn-8 Inv-loop μ-loop
+slice-aggregate-turn-8 c = search needs
+
 turn-requires : tie.Need-turn-requires Inv-loop μ-loop
 turn-requires c κs = search needs
 
@@ -78,6 +84,8 @@ run-spec =
     slice-aggregate-turn-4
     slice-aggregate-turn-5
     slice-aggregate-turn-6
+    slice-aggregate-turn-7
+    slice-aggregate-turn-8
     turn-requires
     add-at
     loop-less

@@ -1,0 +1,38 @@
+-- `serving::words::pair` meets its contract: its tests are those of the rule, in its order.
+use Prim.Native.Nat.{ℕ, _+_, _*_}
+use mathlib.Core.Path.{sym, _∙_, ap, ap₂}
+use borrow.Author.Tests.{lt-ltb, le-ltb}
+use lib.Dec.{ltb}
+use Rattle.serving.specs.Words.{pair}
+use borrow.Author.Needs.{needs}
+use Rattle.serving.proofs.words.pair.Statement.{statement}
+use Rattle.serving.proofs.words.pair.Tie as tie
+
+digit-requires : tie.Need-digit-requires
+digit-requires c κs = search needs
+
+returns : tie.Need-returns
+unfolding pair
+returns c = rw (ap (λ (n : ℕ). ltb 9 n) (sym (c .before .digit .ensures)) ∙ lt-ltb 9 (c .before .digit .result) (c .if1 .taken))
+
+digit-requires-2 : tie.Need-digit-requires-2
+digit-requires-2 c κs = search needs
+
+returns-2 : tie.Need-returns-2
+unfolding pair
+returns-2 c = rw (ap (λ (n : ℕ). ltb 9 n) (sym (c .before .before .before .digit .ensures)) ∙ le-ltb 9 (c .before .before .before .digit .result) (c .before .before .if1 .left), ap (λ (n : ℕ). ltb 9 n) (sym (c .before .digit2 .ensures)) ∙ lt-ltb 9 (c .before .digit2 .result) (c .if2 .taken))
+
+mul-result : tie.Need-mul-result
+mul-result c = search needs
+
+add-result : tie.Need-add-result
+add-result c = search needs
+
+returns-3 : tie.Need-returns-3
+unfolding pair
+returns-3 c = rw (ap (λ (n : ℕ). ltb 9 n) (sym (c .before .before .before .digit .ensures)) ∙ le-ltb 9 (c .before .before .before .digit .result) (c .before .before .if1 .left), ap (λ (n : ℕ). ltb 9 n) (sym (c .before .digit2 .ensures)) ∙ le-ltb 9 (c .before .digit2 .result) (c .if2 .left)) (ap₂ (λ (x y : ℕ). x * 10 + y) (c .before .before .before .digit .ensures) (c .before .digit2 .ensures))
+
+pub pair-spec : {M : Type 1} → statement M
+pair-spec =
+    tie.close
+    (tie.spec digit-requires returns digit-requires-2 returns-2 mul-result add-result returns-3)
