@@ -9,7 +9,7 @@ use borrow.Author.Tests.{eqb-true, lt-leb}
 use lib.Dec.{eqb, leb}
 use lib.ListN.{length, set}
 use Rattle.frame.specs.Ground.{pick, within}
-use Rattle.frame.specs.Holding.{buffer-behind, holding-behind, is-holding}
+use Rattle.frame.specs.Holding.{buffer-behind, is-holding}
 use Rattle.frame.specs.Receive.{number, received}
 use Rattle.frame.specs.declared.holding.Holding.{Holding}
 use Rattle.frame.specs.declared.holding.Holding.the-variants.{Held, Dropping}
@@ -21,7 +21,7 @@ use Rattle.printer.specs.Single.{HandedByte, joined-by, single, taken}
 use Rattle.printer.specs.Demands.{full}
 use Rattle.printer.proofs.Accepting.{byte-as-whole, room-enough, valid-handled}
 use Rattle.printer.proofs.Bytewise.{handled-loud, held-tell}
-use Rattle.serving.specs.Hold.{asked, handed-in, left-buffer, left-held, served, served-by, taken-unless}
+use Rattle.serving.specs.Hold.{asked, handed-in, left-buffer, served, served-by, taken-unless}
 use Rattle.serving.specs.HoldLaws.{ServedAsSingle}
 
 module _ (m : List ℕ) (h : HandedByte) (v : valid-state m ≡ true) (w : valid-store (h .store) ≡ true) (a : answer-size ≤ h .answer-room) (b : strips-size ≤ h .strip-room) where
@@ -43,7 +43,6 @@ module _ (m : List ℕ) (h : HandedByte) (v : valid-state m ≡ true) (w : valid
 
   record Same (x : Holding) : Type 0 where
     given : served-by m h x ≡ single m h
-    behind : left-held x (h .buffer) (served-by m h x .number) ≡ holding-behind x (single m h .number)
     buffer : left-buffer x (h .buffer) (h .byte) ≡ buffer-behind x (h .buffer) (h .byte) (single m h .number)
 
   same : (x : Holding) → h .holding ≡ x → is-holding (h .holding) (h .buffer) ≡ true → Same x
@@ -53,24 +52,21 @@ module _ (m : List ℕ) (h : HandedByte) (v : valid-state m ≡ true) (w : valid
       let q : single m h ≡ taken (over s) = byte-as-whole m h v w k a b .held n e in
       let f : leb (length (h .buffer)) n ≡ false = lt-leb (length (h .buffer)) n (omega (arith, room .full, room .room)) in
       let g : served-by m h (Held n) ≡ single m h =
-      ap (λ (t : Bool). pick t (silent (printer-of m) 3) (taken-unless (asked m h s))) f
+      ap (λ (t : Bool). pick t (silent (printer-of m) 1) (taken-unless (asked m h s))) f
       ∙ ap taken-unless (asked-whole s)
       ∙ ap (λ (t : Bool). pick t (over s) (taken (over s))) (loud s)
       ∙ sym q in
       record {
         given = g;
-        behind =
-            ap (λ (t : Bool). pick t (Held n) (holding-behind (Held n) (served-by m h (Held n) .number))) f
-            ∙ ap (λ (o : Outcome). holding-behind (Held n) (o .number)) g;
         buffer =
             sym
             (ap (λ (o : Outcome). buffer-behind (Held n) (h .buffer) (h .byte) (o .number)) q
             ∙ ap (λ (t : Bool). pick t (h .buffer) (set (h .buffer) n (h .byte))) (loud s));
       }
-  same Dropping e k = record { given = sym (byte-as-whole m h v w k a b .dropped e); behind = refl; buffer = refl }
+  same Dropping e k = record { given = sym (byte-as-whole m h v w k a b .dropped e); buffer = refl }
 
 pub served-as-single : ServedAsSingle
 unfolding served
 served-as-single m h v w k a b =
     let s = same m h v w a b (h .holding) refl k in
-    record { outcome = s .given; holding = s .behind; buffer = s .buffer }
+    record { outcome = s .given; buffer = s .buffer }

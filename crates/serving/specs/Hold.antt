@@ -28,29 +28,26 @@ asked m h s = pick (eqb (number (received s)) 3) (silent (printer-of m) 3) (outc
 abbrev pub taken-unless : Outcome → Outcome
 taken-unless o = pick (within 1 2 (o .number)) o (taken o)
 
--- 02, Wish 6: "After 4 it drops all until silence", with a 3 at each byte that "is dropped". Where there is no room the byte is not taken,
--- with a 3 too; the law says that a burst never comes to that.
+-- 02, Wish 6: "After 4 it drops all until silence", with a 3 at each byte that "is dropped"; "1 also for a holding that no burst leaves":
+-- here one without room for a byte.
 abbrev pub served-by : List ℕ → HandedByte → Holding → Outcome
 served-by m h (Held n) =
-    pick (leb (length (h .buffer)) n) (silent (printer-of m) 3)
+    pick (leb (length (h .buffer)) n) (silent (printer-of m) 1)
     (taken-unless (asked m h (joined-by n (h .buffer) (h .byte))))
 served-by m h Dropping = taken (silent (printer-of m) 3)
 
 unfoldable pub served : List ℕ → HandedByte → Outcome
 served m h = served-by m h (h .holding)
 
--- What is held behind the byte, by its number. In the buffer the byte stands behind those that were held, also where it is left untaken.
-abbrev pub left-held : Holding → List ℕ → ℕ → Holding
-left-held (Held n) buffer number = pick (leb (length buffer) n) (Held n) (holding-behind (Held n) number)
-left-held Dropping buffer number = Dropping
-
+-- In the buffer the byte stands behind those that were held, also where it is left untaken.
 abbrev pub left-buffer : Holding → List ℕ → ℕ → List ℕ
 left-buffer (Held n) buffer byte = set buffer n byte
 left-buffer Dropping buffer byte = buffer
 
--- The contract of `wait`: the answer of a 3.
-abbrev pub waiting : ℕ → Answered
-waiting consumed = record { number = 3; place = Nowhere; consumed = consumed; answer = 0; strips = replicate 4 0 }
+-- The contract of `uncalled`: a number and nothing else.
+abbrev pub uncalled : ℕ → ℕ → Answered
+uncalled number consumed =
+    record { number = number; place = Nowhere; consumed = consumed; answer = 0; strips = replicate 4 0 }
 
 -- The contract of `behind`.
 abbrev pub behind : ℕ → Answered → Taken
@@ -63,5 +60,5 @@ pub record Serves
     (m′ store′ buffer′ answer′ strips′ : List ℕ) : Type 0 where
   pub fulfils :
       Fulfils (served m (handed-byte store holding buffer byte answer strips)) m store answer strips (r .answered) m′ store′ answer′ strips′
-  pub holds : r .holding ≡ left-held holding buffer (served m (handed-byte store holding buffer byte answer strips) .number)
+  pub holds : r .holding ≡ holding-behind holding (served m (handed-byte store holding buffer byte answer strips) .number)
   pub buffer-bytes : buffer′ ≡ left-buffer holding buffer byte

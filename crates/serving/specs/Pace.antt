@@ -37,7 +37,7 @@ is-silence waited watchdog = leb (watchdog * 1000) waited
 
 -- The box "ticks once for each second of the machine's clock": so many have gone by since the start, and so many ticks were made.
 abbrev pub due : ℕ → ℕ → ℕ
-due gone made = gone / 1000 - made
+due gone made = since made (gone / 1000)
 
 -- "Seconds missed are made up": the state behind so many ticks.
 abbrev pub ticked : ℕ → List ℕ → List ℕ

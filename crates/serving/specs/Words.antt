@@ -10,27 +10,35 @@ use Rattle.calendar.specs.declared.clock.Clock.{Clock}
 use Rattle.serving.specs.declared.words.Start.{Start}
 use Rattle.serving.specs.declared.words.Start.the-variants.{At, Unreadable}
 
--- A digit's number; 10 for a byte that is no digit.
-unfoldable pub digit : ℕ → ℕ
-digit b = pick (within 0x30 0x39 b) (b - 0x30) 10
+-- What stands for no number: more than two digits write, and no second, minute, hour, day, month or year.
+abbrev pub unwritten : ℕ
+unwritten = 255
 
--- What two bytes write; 100 where they are no two digits, which is no second, minute, hour, day, month or year.
+-- A digit's number.
+unfoldable pub digit : ℕ → ℕ
+digit b = pick (within 0x30 0x39 b) (b - 0x30) unwritten
+
+-- What two bytes write, where both are digits.
 unfoldable pub pair : ℕ → ℕ → ℕ
 pair tens ones =
-    pick (ltb 9 (digit tens)) 100 (pick (ltb 9 (digit ones)) 100 (digit tens * 10 + digit ones))
+    pick (eqb (digit tens) unwritten) unwritten
+    (pick (eqb (digit ones) unwritten) unwritten (digit tens * 10 + digit ones))
 
 abbrev pub pair-at : List ℕ → ℕ → ℕ
 pair-at s i = pair (getD s i 0) (getD s (i + 1) 0)
 
 -- 01, On the wire: "Jets by printer type": 1 to 4; 0 for a word that is none.
 unfoldable pub model-of : List ℕ → ℕ
-model-of s = pick (eqb (length s) 1) (pick (within 1 4 (digit (getD s 0 0))) (digit (getD s 0 0)) 0) 0
+model-of s = pick (eqb (length s) 1) (pick (ltb 4 (digit (getD s 0 0))) 0 (digit (getD s 0 0))) 0
 
--- Document 000: the watchdog is 1 to 99 s; 0 for a word that is none.
+-- Document 000: the watchdog is 1 to 99 s, one or two digits; 0 for a word that is none.
+unfoldable pub if-written : ℕ → ℕ
+if-written n = pick (eqb n unwritten) 0 n
+
 unfoldable pub watchdog-of : List ℕ → ℕ
 watchdog-of s =
-    pick (eqb (length s) 1) (pick (within 1 9 (digit (getD s 0 0))) (digit (getD s 0 0)) 0)
-    (pick (eqb (length s) 2) (pick (within 1 99 (pair (getD s 0 0) (getD s 1 0))) (pair (getD s 0 0) (getD s 1 0)) 0) 0)
+    pick (eqb (length s) 1) (if-written (digit (getD s 0 0)))
+    (pick (eqb (length s) 2) (if-written (pair (getD s 0 0) (getD s 1 0))) 0)
 
 -- The marks of YYYY-MM-DDTHH:MM:SS.
 unfoldable pub is-marked : List ℕ → Bool

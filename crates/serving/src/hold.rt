@@ -1,4 +1,5 @@
 // A byte of a line, taken without a look at the state until something is whole: bytes are gathered until `frame`'s receiver, which needs no state, finds them whole; only then the box is called, which tests it.
+use content::byte::within;
 use frame::given::Where;
 use frame::holding::Holding;
 use frame::receive::Received;
@@ -9,14 +10,14 @@ use printer::single::Taken;
 ghost use Prim.Native.Nat.{_+_, _<_};
 ghost use mathlib.Core.Path.{_≡_};
 ghost use Rattle.frame.specs.declared.holding.Holding.the-variants.{Held};
-ghost use Rattle.serving.specs.Hold.{Serves, behind, waiting};
+ghost use Rattle.serving.specs.Hold.{Serves, behind, uncalled};
 
-// The box is not called, which is a 3; so many bytes are taken.
-fn wait(consumed: usize) -> Answered
-    ensures { λ r. ⌜ r ≡ waiting consumed ⌝ }
+// The box is not called: a number and nothing else, and so many bytes are taken.
+fn uncalled(number: u8, consumed: usize) -> Answered
+    ensures { λ r. ⌜ r ≡ uncalled number consumed ⌝ }
 {
     Answered {
-        number: 3,
+        number,
         place: Where::Nowhere,
         consumed,
         answer: 0,
@@ -30,13 +31,7 @@ fn behind(n: usize, answered: Answered) -> Taken
     ensures { λ r. ⌜ r ≡ behind n answered ⌝ }
 {
     let number = answered.number;
-    if number == 1 {
-        return Taken {
-            answered,
-            holding: Holding::Held(n),
-        };
-    }
-    if number == 2 {
+    if within(1, 2, number) {
         return Taken {
             answered,
             holding: Holding::Held(n),
@@ -62,7 +57,7 @@ fn behind(n: usize, answered: Answered) -> Taken
     }
 }
 
-// A byte behind n others that are held.
+// A byte behind n others that are held; 1 where there is no room for it, which no burst leaves.
 fn serve_held(
     state: &mut [u8],
     store: &mut [u8],
@@ -76,16 +71,17 @@ fn serve_held(
 {
     if buffer.len() <= n {
         return Taken {
-            answered: wait(0),
+            answered: uncalled(1, 0),
             holding: Holding::Held(n),
         };
     }
     buffer[n] = byte;
-    let found = received(&buffer[..n + 1]);
+    let whole = &buffer[..n + 1];
+    let found = received(whole);
     if let Received::Partial = found {
-        return behind(n, wait(0));
+        return behind(n, uncalled(3, 0));
     }
-    behind(n, receive(state, store, &buffer[..n + 1], answer, strips))
+    behind(n, receive(state, store, whole, answer, strips))
 }
 
 // Takes a byte of the line: it is held or dropped, or completes what is handed in to the box.
@@ -103,7 +99,7 @@ pub fn serve(
     match holding {
         Holding::Held(n) => serve_held(state, store, n, buffer, byte, answer, strips),
         Holding::Dropping => Taken {
-            answered: wait(1),
+            answered: uncalled(3, 1),
             holding: Holding::Dropping,
         },
     }

@@ -59,11 +59,7 @@ pub fn is_silence(waited: u64, watchdog: u8) -> bool
 pub fn due(gone: u64, made: u64) -> u64
     ensures { λ r. ⌜ r ≡ due gone made ⌝ }
 {
-    let seconds = gone / 1000;
-    if seconds < made {
-        return 0;
-    }
-    seconds - made
+    since(made, gone / 1000)
 }
 
 // Seconds that were missed are made up, one tick each.

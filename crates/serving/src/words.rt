@@ -3,52 +3,42 @@ use calendar::clock::Clock;
 use calendar::clock::date_of;
 use calendar::clock::moment;
 use content::byte::within;
-ghost use Prim.Native.Nat.{_<_};
-ghost use lib.ListN.{getD};
+ghost use Prim.Native.Nat.{_+_, _<_};
+ghost use lib.ListN.{length};
 ghost use mathlib.Core.Path.{_≡_};
-ghost use Rattle.serving.specs.Words.{digit, is-marked, model-of, moment-of, pair, pair-at, start-of, watchdog-of};
+ghost use Rattle.serving.specs.Words.{digit, if-written, is-marked, model-of, moment-of, pair, pair-at, start-of, watchdog-of};
 
-// A digit's number; 10 for what is no digit.
+// A digit's number; 255, which no digits write, for what is no digit.
 fn digit(b: u8) -> u8
     ensures { λ r. ⌜ r ≡ digit b ⌝ }
 {
     if !within(0x30, 0x39, b) {
-        return 10;
+        return u8::MAX;
     }
     b - 0x30
 }
 
-// The byte at a place, 00h behind the end.
-fn byte_at(s: &[u8], i: usize) -> u8
-    ensures { λ r. ⌜ r ≡ getD (now (s .entry)) i 0 ⌝ }
-{
-    if s.len() <= i {
-        return 0;
-    }
-    s[i]
-}
-
-// The number that two bytes write; 100 for what is no two digits.
+// The number that two bytes write; 255 for what is no two digits.
 fn pair(tens: u8, ones: u8) -> u8
     ensures { λ r. ⌜ r ≡ pair tens ones ⌝ }
 {
     let t = digit(tens);
-    if 9 < t {
-        return 100;
+    if t == u8::MAX {
+        return u8::MAX;
     }
     let o = digit(ones);
-    if 9 < o {
-        return 100;
+    if o == u8::MAX {
+        return u8::MAX;
     }
     t * 10 + o
 }
 
 // The number that two bytes from a place on write.
 fn pair_at(s: &[u8], i: usize) -> u8
-    requires { ⌜ i < 1000 ⌝ }
+    requires { ⌜ i + 1 < length (now s) ⌝ }
     ensures { λ r. ⌜ r ≡ pair-at (now (s .entry)) i ⌝ }
 {
-    pair(byte_at(s, i), byte_at(s, i + 1))
+    pair(s[i], s[i + 1])
 }
 
 // The printer's type, "1" to "4"; 0 for another word.
@@ -59,10 +49,20 @@ pub fn model_of(s: &[u8]) -> u8
         return 0;
     }
     let d = digit(s[0]);
-    if !within(1, 4, d) {
+    if 4 < d {
         return 0;
     }
     d
+}
+
+// What is written, and 0 where nothing is.
+fn if_written(n: u8) -> u8
+    ensures { λ r. ⌜ r ≡ if-written n ⌝ }
+{
+    if n == u8::MAX {
+        return 0;
+    }
+    n
 }
 
 // The watchdog's seconds, "1" to "99"; 0 for another word.
@@ -70,20 +70,12 @@ pub fn watchdog_of(s: &[u8]) -> u8
     ensures { λ r. ⌜ r ≡ watchdog-of (now (s .entry)) ⌝ }
 {
     if s.len() == 1 {
-        let d = digit(s[0]);
-        if !within(1, 9, d) {
-            return 0;
-        }
-        return d;
+        return if_written(digit(s[0]));
     }
     if s.len() != 2 {
         return 0;
     }
-    let n = pair(s[0], s[1]);
-    if !within(1, 99, n) {
-        return 0;
-    }
-    n
+    if_written(pair(s[0], s[1]))
 }
 
 pub enum Start {
@@ -93,25 +85,27 @@ pub enum Start {
 
 // The marks of YYYY-MM-DDTHH:MM:SS stand where they should.
 fn marked(s: &[u8]) -> bool
+    requires { ⌜ length (now s) ≡ 19 ⌝ }
     ensures { λ r. ⌜ r ≡ is-marked (now (s .entry)) ⌝ }
 {
-    if byte_at(s, 4) != b'-' {
+    if s[4] != b'-' {
         return false;
     }
-    if byte_at(s, 7) != b'-' {
+    if s[7] != b'-' {
         return false;
     }
-    if byte_at(s, 10) != b'T' {
+    if s[10] != b'T' {
         return false;
     }
-    if byte_at(s, 13) != b':' {
+    if s[13] != b':' {
         return false;
     }
-    byte_at(s, 16) == b':'
+    s[16] == b':'
 }
 
-// The moment that the digits write; 100 stands where there are no two, which no real moment has.
+// The moment that the digits write; 255 stands where there are no two, which no real moment has.
 fn written(s: &[u8]) -> Clock
+    requires { ⌜ length (now s) ≡ 19 ⌝ }
     ensures { λ r. ⌜ r ≡ moment-of (now (s .entry)) ⌝ }
 {
     moment(

@@ -6,6 +6,7 @@ use mathlib.Core.Path.{_≡_, refl, _∙_, ap}
 use native.Mathlib.Omega.{arith}
 use lib.Dec.{eqb}
 use Rattle.frame.specs.Ground.{pick}
+use Rattle.frame.specs.Holding.{holding-behind}
 use Rattle.printer.specs.Order.{store-after}
 use Rattle.printer.specs.Receive.{Outcome, kept}
 use Rattle.printer.specs.Bursts.{Run, Stand, behind, byte-in, byte-run, quiet, reply, said, saying}
@@ -23,7 +24,7 @@ byte-same w b g = served-as-single (w .state) (byte-in w b) (g .state .sound) (g
 onward-same : {model : ℕ} (w : Stand) (b : ℕ) → Sound model w → onward w b ≡ behind w b
 onward-same w b g =
     let e = byte-same w b g in
-    same-stand (ap (λ (o : Outcome). kept o (w .state)) (e .outcome)) (ap (λ (o : Outcome). store-after (o .store) (w .store)) (e .outcome)) (e .holding) (e .buffer)
+    same-stand (ap (λ (o : Outcome). kept o (w .state)) (e .outcome)) (ap (λ (o : Outcome). store-after (o .store) (w .store)) (e .outcome)) (ap (λ (o : Outcome). holding-behind (w .holding) (o .number)) (e .outcome)) (e .buffer)
 
 abbrev with-byte : Outcome → Run → Run
 with-byte o x = pick (eqb (o .number) 3) x (saying (reply o) x)

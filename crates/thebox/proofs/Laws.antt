@@ -9,13 +9,13 @@ use borrow.Author.Tests.{eq-eqb, ne-eqb}
 use lib.ListN.{length, getD, take, drop, length-append}
 use lib.Seq.{take-suc}
 use Rattle.frame.specs.Ground.{pick, joined, over}
-use Rattle.frame.specs.Holding.{silenced}
+use Rattle.frame.specs.Holding.{holding-behind, silenced}
 use Rattle.frame.specs.declared.holding.Holding.{Holding}
 use Rattle.printer.specs.Order.{store-after}
 use Rattle.printer.specs.Receive.{Outcome, answer-size, strips-size, kept}
 use Rattle.printer.specs.Bursts.{Stand}
 use Rattle.printer.specs.declared.single.Taken.{Taken}
-use Rattle.serving.specs.Hold.{Serves, left-held, served}
+use Rattle.serving.specs.Hold.{Serves, served}
 use Rattle.serving.specs.Pace.{since, is-silence, due, ticked}
 use Rattle.thebox.specs.Line.{stand, onward, fed, four, ticks, passed, Steps, Feeds, Passes, Takes}
 use Rattle.thebox.specs.declared.line.Settings.{Settings}
@@ -66,7 +66,7 @@ module _ {m store : List ℕ} {h : Holding} {buffer : List ℕ} {byte : ℕ} {an
             same-stand
             (q .fulfils .meets .leaves ∙ ap₂ (λ (x y : ℕ). kept (o x y) m) a b)
             (q .fulfils .stores ∙ ap₂ (λ (x y : ℕ). store-after (o x y .store) store) a b)
-            (q .holds ∙ ap₂ (λ (x y : ℕ). left-held h buffer (o x y .number)) a b)
+            (q .holds ∙ ap₂ (λ (x y : ℕ). holding-behind h (o x y .number)) a b)
             (q .buffer-bytes);
       }
 

@@ -6,12 +6,12 @@ use mathlib.Core.Path.{_≡_}
 use lib.Dec.{eqb}
 use lib.ListN.{length, getD, take}
 use Rattle.frame.specs.Ground.{pick}
-use Rattle.frame.specs.Holding.{silenced}
+use Rattle.frame.specs.Holding.{holding-behind, silenced}
 use Rattle.frame.specs.declared.holding.Holding.{Holding}
 use Rattle.printer.specs.Order.{store-after}
 use Rattle.printer.specs.Receive.{Outcome, kept}
 use Rattle.printer.specs.Bursts.{Stand, byte-in}
-use Rattle.serving.specs.Hold.{left-buffer, left-held, served}
+use Rattle.serving.specs.Hold.{left-buffer, served}
 use Rattle.serving.specs.Pace.{since, is-silence, due, ticked}
 use Rattle.thebox.specs.declared.line.Settings.{Settings}
 use Rattle.thebox.specs.declared.line.Course.{Course}
@@ -29,7 +29,7 @@ given-at w byte = served (w .state) (byte-in w byte)
 abbrev pub onward : Stand → ℕ → Stand
 onward w byte =
     stand (kept (given-at w byte) (w .state)) (store-after (given-at w byte .store) (w .store))
-    (left-held (w .holding) (w .buffer) (given-at w byte .number)) (left-buffer (w .holding) (w .buffer) byte)
+    (holding-behind (w .holding) (given-at w byte .number)) (left-buffer (w .holding) (w .buffer) byte)
 
 -- Bytes, one by one.
 abbrev pub fed : Stand → List ℕ → Stand

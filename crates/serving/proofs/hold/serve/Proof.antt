@@ -12,7 +12,7 @@ returns c =
 returns-2 : tie.Need-returns-2
 returns-2 c =
     let a = c .before .before .before .before .before .before .before .before .args in
-    drops (a .state .now) (a .store .now) (a .buffer .now) (a .answer .now) (a .strips .now) (a .byte) (c .before .enum-told .given .1) (c .wait .ensures)
+    drops (a .state .now) (a .store .now) (a .buffer .now) (a .answer .now) (a .strips .now) (a .byte) (c .before .enum-told .given .1) (c .uncalled .ensures)
 
 pub serve-spec : {M : Type 1} → statement M
 serve-spec =

@@ -24,15 +24,15 @@ not-partial f h e = miss others 0 tt (subst (λ (x : Received). OneOf others (ta
 returns : tie.Need-returns
 returns c =
     let a = c .before .before .before .before .before .before .before .args in
-    no-room (a .state .now) (a .store .now) (a .buffer .now) (a .answer .now) (a .strips .now) (a .n) (a .byte) (c .before .if1 .taken) (c .wait .ensures)
+    no-room (a .state .now) (a .store .now) (a .buffer .now) (a .answer .now) (a .strips .now) (a .n) (a .byte) (c .before .if1 .taken) (c .uncalled .ensures)
 
-slice-reshare-prefix-receive : tie.Need-slice-reshare-prefix-receive
-slice-reshare-prefix-receive c =
+slice-reshare-prefix-whole : tie.Need-slice-reshare-prefix-whole
+slice-reshare-prefix-whole c =
     let a = c .before .before .before .before .before .before .args in
     front-inside (a .buffer .now) (a .n) (a .byte) (c .if1 .left)
 
-slice-aggregate-receive : tie.Need-slice-aggregate-receive
-slice-aggregate-receive c =
+slice-aggregate-whole : tie.Need-slice-aggregate-whole
+slice-aggregate-whole c =
     let a = c .before .before .before .before .before .before .before .args in
     sym (length-take-le _ _ (front-inside (a .buffer .now) (a .n) (a .byte) (c .before .if1 .left)))
 
@@ -42,24 +42,12 @@ returns-2 c =
     let at-if1 = at-receive .before .before in
     let a = at-if1 .before .before .before .before .before .before .args in
     roomy-partial (a .state .now) (a .store .now) (a .buffer .now) (a .answer .now) (a .strips .now) (a .n) (a .byte) (at-if1 .if1 .left)
-    (sym (at-receive .receive .ensures .answer) ∙ c .before .before .enum-told .given .1) (c .before .wait2 .ensures) (c .behind .ensures)
-
-slice-reshare-prefix-receive-2 : tie.Need-slice-reshare-prefix-receive-2
-slice-reshare-prefix-receive-2 c =
-    let at-if1 = c .before .before .before .before .before in
-    let a = at-if1 .before .before .before .before .before .before .args in
-    front-inside (a .buffer .now) (a .n) (a .byte) (at-if1 .if1 .left)
-
-slice-aggregate-receive-2 : tie.Need-slice-aggregate-receive-2
-slice-aggregate-receive-2 c =
-    let at-if1 = c .before .before .before .before .before .before in
-    let a = at-if1 .before .before .before .before .before .before .args in
-    sym (length-take-le _ _ (front-inside (a .buffer .now) (a .n) (a .byte) (at-if1 .if1 .left)))
+    (sym (at-receive .receive .ensures .answer) ∙ c .before .before .enum-told .given .1) (c .before .uncalled2 .ensures) (c .behind .ensures)
 
 returns-3 : tie.Need-returns-3
 returns-3 c =
     let at-receive2 = c .before .before .before .before .before .before .before .before .before in
-    let at-match = at-receive2 .before .before .before .before .before .before in
+    let at-match = at-receive2 .before .before .before .before .before in
     let at-receive = at-match .before in
     let at-if1 = at-receive .before .before in
     let a = at-if1 .before .before .before .before .before .before .args in
@@ -74,17 +62,14 @@ serve-held-spec =
     returns
     (λ c. search needs)
     (λ c. search needs)
-    slice-reshare-prefix-receive
-    slice-aggregate-receive
+    slice-reshare-prefix-whole
+    slice-aggregate-whole
     (λ c κs. search needs)
     (λ c. search needs)
     (λ c κs. search needs)
     (λ c κs. search needs)
     (λ c. search needs)
     returns-2
-    (λ c. search needs)
-    slice-reshare-prefix-receive-2
-    slice-aggregate-receive-2
     (λ c κs. search needs)
     (λ c κs. search needs)
     (λ c. search needs)
