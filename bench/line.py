@@ -4,12 +4,14 @@ Starts the box (RUN box ..) on the pty BOX, sends frames on PORTAL, and compares
 model below says. The model was written from the papers (documents 01 and 02), before the first run, though not blind to the box's rules:
 contents are lists of items, and of a refusal only the 15h is known, since no number goes over the line.
 """
-import datetime, os, random, select, signal, subprocess, sys, time
+import datetime, os, random, select, signal, subprocess, sys, termios, time, tty
 
 WATCHDOG = 1  # seconds
 PAUSE = WATCHDOG + 0.6  # surely silence
 START = datetime.datetime(2024, 2, 29, 23, 58, 30)  # the day, the month and the minute change while the box runs
+MOMENT = START.strftime("%Y-%m-%dT%H:%M:%S")
 ACK, NACK = b"\x06", b"\x15"
+GOOD = bytes(11) + b"\x89" + b"00000000700000000901" + b"\x00\x00\x01" + bytes(2)  # parameters
 MONTHS = "JAN FEV MAR AVR MAI JUN JUI AOU SEP OCT NOV DEC".split()
 
 
@@ -131,10 +133,10 @@ def good_parameters(p):
 
 
 class Model:
-    """A printer of type 3: jets 1 and 3; head 1 owns jet 1."""
+    """A printer of type 4: jets 1 to 4; head 1 owns jets 1 and 2."""
 
     def __init__(self):
-        self.jets = {1: Jet(), 3: Jet()}
+        self.jets = {n: Jet() for n in (1, 2, 3, 4)}
         self.library = {}
         self.prints = []  # for each print the strips at each moment that it may have been
 
@@ -166,15 +168,16 @@ class Model:
         jet.content = jet.content[:address] + symbols + jet.content[address + len(symbols) :]
         return ACK
 
+    def spots(self):
+        """the field positions of head 1, jets ascending"""
+        return [(j, spot) for j in (self.jets[1], self.jets[2]) if j.content for spot in places(j.content, True)]
+
     def update(self, text):
-        jet = self.jets[1]
-        spots = places(jet.content, True) if jet.content else []
+        spots = self.spots()
         if not spots or len(text) != len(spots) or any(not 0x20 <= x <= 0x7E for x in text):
             return NACK
-        changed = bytearray(jet.content)
-        for spot, x in zip(spots, text):
-            changed[spot] = x
-        jet.content = bytes(changed)
+        for (jet, spot), x in zip(spots, text):
+            jet.content = jet.content[:spot] + bytes([x]) + jet.content[spot + 1 :]
         return ACK
 
     def print(self, moments):
@@ -231,7 +234,7 @@ class Line:
         self.strips, self.joiner = strips, joiner
         self.fd = os.open(portal, os.O_RDWR | os.O_NOCTTY)
         line = os.open(box, os.O_RDWR | os.O_NOCTTY)
-        words = [run, "box", "3", START.strftime("%Y-%m-%dT%H:%M:%S"), str(WATCHDOG), strips]
+        words = [run, "box", "4", MOMENT, str(WATCHDOG), strips]
         self.before = time.monotonic()  # the box starts between this
         self.box = subprocess.Popen(words, stdin=line, stdout=line, stderr=subprocess.PIPE)
         os.close(line)
@@ -322,7 +325,7 @@ class Line:
         return good
 
     def jet(self):
-        return bytes([self.random.choice([1, 1, 1, 3, 3, 3, 0, 2, 4])])
+        return bytes([self.random.choice([1, 2, 3, 4] * 3 + [0, 5])])
 
     def some(self):
         """a frame, an update or a 05h, whole, sound or broken"""
@@ -345,8 +348,7 @@ class Line:
             here = places(j.content) if j and j.content else []
             return self.sound(0x42, d + (r.choice(here) if here else 3).to_bytes(2, "big") + b"Q")
         if kind == 9:
-            j = self.model.jets[1]
-            n = len(places(j.content, True)) if j.content else 2
+            n = len(self.model.spots())
             text = bytes(r.choice(b"abcdef,") for _ in range(max(0, n + r.choice([0, 0, 0, 1, -1]))))
             if r.random() < 0.1:
                 text = text[:-1] + b"\x7f"
@@ -411,6 +413,10 @@ class Line:
         self.exchange([(b"\x05", lambda moments: ACK), self.sound(0x0A, a), self.sound(0x42, bytes.fromhex("0100054954")), self.sound(0x94)])
         if self.model.jets[1].content[3:9] != b"IMITE ":
             self.fail("the model is wrong")
+        while self.sent < 60:
+            self.burst()
+        for n in self.model.jets:  # from here on every print is taken
+            self.exchange([self.sound(0x0C, bytes([n]) + GOOD + self.content())])
         while self.sent < 300 and time.monotonic() - self.before < 150:
             self.burst()
         self.quiet()
@@ -438,11 +444,105 @@ class Line:
             said = self.box.communicate(timeout=20)[1].decode()
         except subprocess.TimeoutExpired:
             self.fail("the box does not end with the line")
-        if self.box.returncode == 0 or not said.startswith("box: ") or said.count("\n") != 1:
+        if not is_failure(self.box.returncode, said):
             self.fail(f"the box ended with status {self.box.returncode} and said {said!r}")
         took = time.monotonic() - self.before
         print(f"line: {self.sent} frames and updates, {self.pauses} pauses, {len(self.model.prints)} prints, {took:.0f} s: every answer was the expected one")
 
 
+# ---- How the box starts and ends.
+def is_failure(status, said):
+    """a clear line, and another status than 0"""
+    return status != 0 and said.startswith("box: ") and said.count("\n") == 1
+
+
+def ended(words, s, out=subprocess.PIPE):
+    """status, answers and the lines said, where standard input is these bytes or a file"""
+    lent = {"input": s} if isinstance(s, bytes) else {"stdin": s}
+    r = subprocess.run(words, stdout=out, stderr=subprocess.PIPE, timeout=60, **lent)
+    return r.returncode, r.stdout or b"", r.stderr.decode()
+
+
+def fails(words, s, why, answers=b"", out=subprocess.PIPE):
+    """it fails and says why, behind these answers alone"""
+    status, got, said = ended(words, s, out)
+    if not is_failure(status, said) or not said.startswith("box: " + why) or got != answers:
+        sys.exit(f"line: {words[1:]}: status {status}, answers {got!r}, said {said!r} and not {why!r}")
+
+
+def starts_and_ends(run, strips):
+    """wrong words; a file for the strips; reads and writes that fail"""
+    good = [run, "box", "1", MOMENT]
+    for words, why in (
+        ([], "takes"), (["1"], "takes"), (["1", MOMENT, "3", strips, "x"], "takes"),
+        (["0", MOMENT], "the type"), (["5", MOMENT], "the type"), (["1", "2023-02-29T23:59:58"], "the start time"),
+        (["1", MOMENT, "0"], "the watchdog"), (["1", MOMENT, "100"], "the watchdog"), (["1", MOMENT, "3", strips + "/none"], "the file"),
+    ):
+        fails([run, "box"] + words, b"\x05", why)
+    message = frame(0x0C, b"\x01" + GOOD + b"\x0a\x01\x01J\x1c\x01\x1c\x0d")
+    printed = b"\x0a\x01\x01J000000007\x0d"
+    for words in [], ["3"]:  # the strips go nowhere
+        if ended(good + words, message + frame(0x94)) != (0, ACK + ACK, ""):
+            sys.exit("line: a print is not taken")
+    for k in 1, 2:  # a file that isn't there is made, one that is there is appended to
+        if ended(good + ["3", strips], message + frame(0x94)) != (0, ACK + ACK, "") or not os.path.exists(strips) or open(strips, "rb").read() != printed * k:
+            sys.exit(f"line: print {k} is not in the file")
+    os.remove(strips)
+    fails(good + ["3", "/dev/full"], b"\x05" + message + frame(0x94), "a print", ACK + ACK)  # a print that can't be written is not acknowledged
+    with open("/dev/full", "wb") as full:
+        fails(good, b"\x05", "an answer", out=full)
+    nobody, out = os.pipe()
+    os.close(nobody)
+    fails(good, b"\x05", "an answer", out=out)
+    os.close(out)
+    folder = os.open("/", os.O_RDONLY)
+    fails(good, folder, "standard input")
+    os.close(folder)
+
+
+def default_watchdog(run):
+    """3 s: two and a half are none, three and a half are silence"""
+    box = subprocess.Popen([run, "box", "1", MOMENT], stdin=subprocess.PIPE, stdout=subprocess.PIPE)
+    for wait, s in (0, b"\x05"), (0.5, b"\x94"), (2.5, b"\x00\x00\x94"), (0.5, b"\x02a"), (3.5, b"\x05"), (0, b"\x94\xff\xff"), (3.5, b"\x05"):
+        time.sleep(wait)
+        box.stdin.write(s)
+        box.stdin.flush()
+    box.stdin.close()
+    got = box.stdout.read()
+    if got != ACK + NACK + ACK + NACK + ACK or box.wait(20) != 0:
+        sys.exit(f"line: over pauses the box answered {got.hex()}")
+
+
+def cut_off(run, waiting):
+    """the line's end is an error, whether the box waits for bytes just then or not"""
+    portal, line = os.openpty()
+    tty.setraw(line)
+    attributes = termios.tcgetattr(line)
+    attributes[6][termios.VMIN], attributes[6][termios.VTIME] = 0, 5
+    termios.tcsetattr(line, termios.TCSANOW, attributes)
+    box = subprocess.Popen([run, "box", "1", MOMENT], stdin=line, stdout=line, stderr=subprocess.PIPE, start_new_session=True)
+    os.close(line)
+    os.write(portal, b"\x05")
+    if os.read(portal, 1) != ACK:
+        sys.exit("line: the box does not answer")
+    if not waiting:
+        os.killpg(box.pid, signal.SIGSTOP)
+        time.sleep(0.2)
+    os.close(portal)
+    if not waiting:
+        os.killpg(box.pid, signal.SIGCONT)
+    try:
+        said = box.communicate(timeout=20)[1].decode()
+    except subprocess.TimeoutExpired:
+        os.killpg(box.pid, signal.SIGKILL)
+        sys.exit("line: the box does not end with the line")
+    if not is_failure(box.returncode, said):
+        sys.exit(f"line: with the line the box ended with status {box.returncode} and said {said!r}")
+
+
 run, portal, box, strips, joiner, seed = sys.argv[1:]
+starts_and_ends(run, strips)
+default_watchdog(run)
+cut_off(run, True)
+cut_off(run, False)
 Line(run, portal, box, strips, int(joiner), int(seed)).go()

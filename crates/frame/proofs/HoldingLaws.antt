@@ -12,7 +12,7 @@ use Rattle.frame.specs.Ground.{pick, both, within}
 use Rattle.frame.specs.Wire.{enquiry, update-opens, update-closes, word, longest-update, update-marks, head-size, around, longest-data}
 use Rattle.frame.specs.Receive.{received, updated, framed, run, text-space, data-length, number, consumed}
 use Rattle.frame.specs.Holding.{buffer-behind, holding-behind, holding-size, is-held, is-holding, silenced}
-use Rattle.frame.specs.HoldingLaws.{ByteCompletes, Completes, Follows, FourStays, HeldPartial, HoldingFollows, Left, LeftExactly, SilenceEmpties, dropping, held-in, leaves, leaves-from, left-behind, left-by, number-of, waiting}
+use Rattle.frame.specs.HoldingLaws.{ByteCompletes, Completes, Follows, FourStays, HeldPartial, HoldingExactly, HoldingFollows, Left, LeftBySome, LeftExactly, SilenceEmpties, dropping, held-in, leaves, leaves-from, left-behind, left-by, number-of, waiting}
 use Rattle.frame.specs.declared.holding.Holding.{Holding}
 use Rattle.frame.specs.declared.holding.Holding.the-variants.{Held, Dropping}
 use Rattle.frame.specs.declared.receive.Received.{Received}
@@ -263,6 +263,29 @@ tell-holds n buffer full room bytes = rw (eq-eqb (length buffer) holding-size fu
 pub tell-dropping : (buffer : List ℕ) → length buffer ≡ holding-size → is-holding Dropping buffer ≡ true
 unfolding is-holding
 tell-dropping buffer full = eq-eqb (length buffer) holding-size full
+
+-- Bytes that some burst leaves are fewer than the buffer has, so that they are its first n.
+pub holding-exactly : HoldingExactly
+unfolding is-holding
+holding-exactly (Held n) buffer = ((λ e. some (holds-tell n buffer e)), only)
+  where
+    some : Holds n buffer → LeftBySome (Held n) buffer
+    some h = record { full = h .full; burst = take n buffer; left = left-exactly .held (take n buffer) (h .bytes) }
+
+    only : LeftBySome (Held n) buffer → is-holding (Held n) buffer ≡ true
+    only l =
+        let held : is-held (take n buffer) ≡ true = left-exactly .left (l .burst) (take n buffer) (l .left) in
+        go held (held-short (take n buffer) held) (ltb n (length buffer)) refl
+      where
+        go : is-held (take n buffer) ≡ true → length (take n buffer) < holding-size → (b : Bool) → ltb n (length buffer) ≡ b → is-holding (Held n) buffer ≡ true
+        go held short true e = tell-holds n buffer (l .full) (omega (arith, l .full, ltb-true n (length buffer) e)) held
+        go held short false e =
+            let all : take n buffer ≡ buffer = take-all n buffer (ltb-false n (length buffer) e) in
+            absurd (other 1024 0 refl (omega (arith, l .full, ap length all)))
+holding-exactly Dropping buffer = (
+  (λ e. record { full = eqb-true (length buffer) holding-size e; burst = 0x00 ∷ 0xFF ∷ 0xFF ∷ []; left = left-exactly .dropped }),
+  (λ l. tell-dropping buffer (l .full)),
+)
 
 -- The bytes that were held and the one behind them.
 pub behind-front : (n : ℕ) (buffer : List ℕ) (byte : ℕ) → n < length buffer → take (n + 1) (set buffer n byte) ≡ take n buffer ++ (byte ∷ [])

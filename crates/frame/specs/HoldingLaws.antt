@@ -39,7 +39,7 @@ leaves-from l (byte ∷ burst) = leaves-from (left-behind l byte) burst
 abbrev pub leaves : List ℕ → Left
 leaves burst = leaves-from (waiting []) burst
 
--- 02, Wish 6: a holding "that some burst leaves". The bytes of a holding are such a burst themselves.
+-- Bytes that some burst leaves: they are such a burst themselves.
 pub record LeftExactly : Type 0 where
   pub held : (s : List ℕ) → is-held s ≡ true → leaves s ≡ waiting s
   pub dropped : leaves (0x00 ∷ 0xFF ∷ 0xFF ∷ []) ≡ dropping
@@ -49,6 +49,15 @@ pub record LeftExactly : Type 0 where
 abbrev pub held-in : Holding → List ℕ → Left
 held-in (Held n) buffer = waiting (take n buffer)
 held-in Dropping buffer = dropping
+
+-- 02, Wish 6: "a holding that some burst leaves": its buffer is one of 1,024 bytes, and what it has of the buffer is what the burst leaves.
+pub record LeftBySome (h : Holding) (buffer : List ℕ) : Type 0 where
+  pub full : length buffer ≡ 1024
+  pub burst : List ℕ
+  pub left : leaves burst ≡ held-in h buffer
+
+abbrev pub HoldingExactly : Type 0
+HoldingExactly = (h : Holding) (buffer : List ℕ) → (is-holding h buffer ≡ true) ↔ LeftBySome h buffer
 
 -- 02, Wish 6: "silence always empties it".
 abbrev pub SilenceEmpties : Type 0

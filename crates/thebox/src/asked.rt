@@ -50,20 +50,17 @@ fn asked_watchdog(words: usize) -> u8 {
     watchdog_of(&word[..n])
 }
 
-// A file that is there is appended to, one that isn't is made.
+// A file that isn't there is made; every print goes to its end, wherever that is by then.
 fn open_strips(path: &[u8]) -> Strips {
-    let fd = os::open_append(path);
-    if 0 <= fd {
-        return Strips::To(fd);
-    }
-    if os::errno() != libc::ENOENT {
-        return Strips::Failed;
-    }
     let made = os::create(path);
-    if made < 0 {
+    if 0 <= made {
+        libc::close(made);
+    }
+    let fd = os::open_append(path);
+    if fd < 0 {
         return Strips::Failed;
     }
-    Strips::To(made)
+    Strips::To(fd)
 }
 
 fn asked_strips(words: usize) -> Strips {

@@ -212,6 +212,17 @@ fn take(
     }
 }
 
+// Whether there is nothing more to read, and not because a pipe has ended: the read failed, or it brought nothing and the tty is none any more. A line that is cut off while nobody reads gives no bytes for ever after.
+fn cut_off(got: isize, tty: bool) -> bool {
+    if got != 0 {
+        return got < 0;
+    }
+    if !tty {
+        return false;
+    }
+    libc::isatty(STDIN_FILENO) != 1
+}
+
 // One read and what it came to.
 fn read_once(
     state: &mut [u8],
@@ -222,7 +233,7 @@ fn read_once(
 ) -> Turn {
     let mut bytes = [0; READ];
     let got = libc::read(STDIN_FILENO, &mut bytes);
-    if got < 0 {
+    if cut_off(got, settings.tty) {
         read_failed();
         return Turn {
             course,

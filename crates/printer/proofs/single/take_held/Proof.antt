@@ -1,12 +1,10 @@
 -- `printer::single::take_held` meets its contract: the byte stands behind those that were held, and these are handled as the first receiver does.
-use Prim.Native.Nat.{ℕ, _+_}
-use mathlib.Core.Bool.{false}
-use mathlib.Core.Path.{_≡_, refl, sym, subst}
+use Prim.Native.Nat.{_+_}
+use mathlib.Core.Path.{refl, sym}
 use native.Mathlib.Omega.{arith}
 use borrow.Author.Needs.{needs}
 use lib.ListN.{set, take, length-set}
 use lib.Seq.{length-take-le}
-use Rattle.frame.specs.Ground.{within}
 use Rattle.printer.specs.State.{printer-of}
 use Rattle.printer.proofs.Bytewise.{handled-loud, takes-held}
 use Rattle.printer.proofs.single.take_held.Statement.{statement}
@@ -38,7 +36,7 @@ held-behind-requires c κs =
     let at-start = at-handle .before .before .before .before .before .before .before .before .before .before .before in
     let a = at-start .args in
     let s = take (a .n + 1) (set (a .buffer .now) (a .n) (a .byte)) in
-    (at-start .pre .3, subst (λ (k : ℕ). within 1 2 k ≡ false) (sym (at-handle .handle .ensures .meets .gives)) (handled-loud (printer-of (a .state .now)) (a .store .now) s))
+    (at-start .pre .3, rw (at-handle .handle .ensures .meets .gives) (handled-loud (printer-of (a .state .now)) (a .store .now) s))
 
 returns : tie.Need-returns
 returns c =
