@@ -488,12 +488,12 @@ def starts_and_ends(run, strips):
         if ended(good + ["3", strips], message + frame(0x94)) != (0, ACK + ACK, "") or not os.path.exists(strips) or open(strips, "rb").read() != printed * k:
             sys.exit(f"line: print {k} is not in the file")
     os.remove(strips)
-    fails(good + ["3", "/dev/full"], b"\x05" + message + frame(0x94), "a print", ACK + ACK)  # a print that can't be written is not acknowledged
+    fails(good + ["3", "/dev/full"], b"\x05" + message + frame(0x94) + b"\x05", "a print", ACK + ACK)  # it is not acknowledged, and nothing behind it
     with open("/dev/full", "wb") as full:
-        fails(good, b"\x05", "an answer", out=full)
+        fails(good, b"\x05\x05", "an answer", out=full)
     nobody, out = os.pipe()
     os.close(nobody)
-    fails(good, b"\x05", "an answer", out=out)
+    fails(good, b"\x05\x05", "an answer", out=out)
     os.close(out)
     folder = os.open("/", os.O_RDONLY)
     fails(good, folder, "standard input")

@@ -25,8 +25,25 @@ enum By {
     Program,
 }
 
-// A byte is taken, with so much of the state, of the store and of the buffers as the rooms say.
+// A byte is taken.
 fn take(
+    by: By,
+    state: &mut [u8],
+    store: &mut [u8],
+    holding: Holding,
+    buffer: &mut [u8],
+    byte: u8,
+    answer: &mut [u8],
+    strips: &mut [u8],
+) -> Taken {
+    match by {
+        By::Receiver => take_byte(state, store, holding, buffer, byte, answer, strips),
+        By::Program => serve(state, store, holding, buffer, byte, answer, strips),
+    }
+}
+
+// The same with so much of the state, of the store and of the buffers as the rooms say.
+fn take_part(
     by: By,
     state: &mut [u8],
     store: &mut [u8],
@@ -61,26 +78,16 @@ fn take(
     if strips.len() < b {
         return none;
     }
-    match by {
-        By::Receiver => take_byte(
-            &mut state[0..n],
-            &mut store[0..m],
-            holding,
-            &mut buffer[0..k],
-            byte,
-            &mut answer[0..a],
-            &mut strips[0..b],
-        ),
-        By::Program => serve(
-            &mut state[0..n],
-            &mut store[0..m],
-            holding,
-            &mut buffer[0..k],
-            byte,
-            &mut answer[0..a],
-            &mut strips[0..b],
-        ),
-    }
+    take(
+        by,
+        &mut state[0..n],
+        &mut store[0..m],
+        holding,
+        &mut buffer[0..k],
+        byte,
+        &mut answer[0..a],
+        &mut strips[0..b],
+    )
 }
 
 // What is held: so many bytes, or none while all is dropped.
@@ -109,7 +116,7 @@ fn alone(
     if s.len() < 1 {
         return holding;
     }
-    let taken = take(
+    let taken = take_part(
         by,
         state,
         store,
@@ -138,7 +145,7 @@ fn among(
     strips: &mut [u8],
     rooms: Rooms,
 ) -> Holding {
-    let taken = take(
+    let taken = take_part(
         by,
         state,
         store,
@@ -202,6 +209,25 @@ fn hold(line: &[u8], buffer: &mut [u8]) -> Holding {
     Holding::Held(number(line, 1))
 }
 
+// Who takes the bytes of a line.
+fn taker(line: &[u8]) -> By {
+    if begins(line, b"served") {
+        return By::Program;
+    }
+    if begins(line, b"serve") {
+        return By::Program;
+    }
+    By::Receiver
+}
+
+// Whether a line has one byte, whose outcome is written whatever its number.
+fn is_alone(line: &[u8]) -> bool {
+    if begins(line, b"byte") {
+        return true;
+    }
+    begins(line, b"served")
+}
+
 // What is held behind the bytes of a line, or behind a silence.
 fn heard(
     line: &[u8],
@@ -219,56 +245,11 @@ fn heard(
     let mut bytes = [0; BYTES];
     let n = bytes_in(line, 1, &mut bytes);
     let s = front(&bytes, n);
-    if begins(line, b"byte") {
-        return alone(
-            By::Receiver,
-            s,
-            state,
-            store,
-            holding,
-            buffer,
-            answer,
-            strips,
-            rooms,
-        );
+    let by = taker(line);
+    if is_alone(line) {
+        return alone(by, s, state, store, holding, buffer, answer, strips, rooms);
     }
-    if begins(line, b"served") {
-        return alone(
-            By::Program,
-            s,
-            state,
-            store,
-            holding,
-            buffer,
-            answer,
-            strips,
-            rooms,
-        );
-    }
-    if begins(line, b"serve") {
-        return burst(
-            By::Program,
-            s,
-            state,
-            store,
-            holding,
-            buffer,
-            answer,
-            strips,
-            rooms,
-        );
-    }
-    burst(
-        By::Receiver,
-        s,
-        state,
-        store,
-        holding,
-        buffer,
-        answer,
-        strips,
-        rooms,
-    )
+    burst(by, s, state, store, holding, buffer, answer, strips, rooms)
 }
 
 // Whether a line is for single bytes.

@@ -214,8 +214,11 @@ fn take(
 
 // Whether there is nothing more to read, and not because a pipe has ended: the read failed, or it brought nothing and the tty is none any more. A line that is cut off while nobody reads gives no bytes for ever after.
 fn cut_off(got: isize, tty: bool) -> bool {
-    if got != 0 {
-        return got < 0;
+    if got < 0 {
+        return true;
+    }
+    if 0 < got {
+        return false;
     }
     if !tty {
         return false;
