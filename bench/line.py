@@ -470,6 +470,19 @@ def fails(words, s, why, answers=b"", out=subprocess.PIPE):
         sys.exit(f"line: {words[1:]}: status {status}, answers {got!r}, said {said!r} and not {why!r}")
 
 
+def emptied(words, strips, message):
+    """a print goes to the end of a file that the box made and that somebody has emptied since"""
+    box = subprocess.Popen(words, stdin=subprocess.PIPE, stdout=subprocess.PIPE)
+    box.stdin.write(message + frame(0x94))
+    box.stdin.flush()
+    got = box.stdout.read(2)
+    os.truncate(strips, 0)
+    got += box.communicate(frame(0x94), timeout=20)[0]
+    if got != ACK * 3 or open(strips, "rb").read() != b"\x0a\x01\x01J000000008\x0d":
+        sys.exit("line: a print is not at the end of a file that was emptied")
+    os.remove(strips)
+
+
 def starts_and_ends(run, strips):
     """wrong words; a file for the strips; reads and writes that fail"""
     good = [run, "box", "1", MOMENT]
@@ -488,6 +501,7 @@ def starts_and_ends(run, strips):
         if ended(good + ["3", strips], message + frame(0x94)) != (0, ACK + ACK, "") or not os.path.exists(strips) or open(strips, "rb").read() != printed * k:
             sys.exit(f"line: print {k} is not in the file")
     os.remove(strips)
+    emptied(good + ["3", strips], strips, message)
     fails(good + ["3", "/dev/full"], b"\x05" + message + frame(0x94) + b"\x05", "a print", ACK + ACK)  # it is not acknowledged, and nothing behind it
     with open("/dev/full", "wb") as full:
         fails(good, b"\x05\x05", "an answer", out=full)
