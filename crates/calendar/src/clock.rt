@@ -5,14 +5,14 @@ ghost use Rattle.calendar.specs.Clock.{clock_text, date, days_in, entries, is_da
 use content::byte::within;
 
 // Years are 0 to 99, for 2000 to 2099.
-#[derive(Drop)]
+#[derive(Clone, Copy)]
 pub struct Date {
     pub day: u8,
     pub month: u8,
     pub year: u8,
 }
 
-#[derive(Drop)]
+#[derive(Clone, Copy)]
 pub struct Clock {
     pub second: u8,
     pub minute: u8,

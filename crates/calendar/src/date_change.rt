@@ -5,7 +5,7 @@ ghost use Rattle.calendar.specs.DateChange.{change_text, is_before, is_time, pri
 use crate::clock::{Clock, Date, moment, ones, tens};
 
 // HHMM.
-#[derive(Drop)]
+#[derive(Clone, Copy)]
 pub struct TimeOfDay {
     pub hour: u8,
     pub minute: u8,

@@ -1,4 +1,6 @@
 // The console of document 01: a fresh printer of type 1 with an empty store is fed standard input, and each call is a line, but for one that waits for more.
+#![tactic(auto)]
+
 ghost use Rattle.std.specs.Prelude.{◌≤◌, length, ◌≡◌};
 ghost use Rattle.console.specs.Console.{line_size, Runs, start_state, start_store, Starts, Turns};
 

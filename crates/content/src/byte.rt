@@ -4,7 +4,7 @@ ghost use Rattle.content.specs.Byte.{code_of, is_character, is_code, is_count, i
 ghost use Rattle.frame.specs.Ground.{within};
 
 // What a byte can be at the place of an item.
-#[derive(Drop)]
+#[derive(Clone, Copy)]
 pub enum Kind {
     Line,
     End,
@@ -18,7 +18,7 @@ pub enum Kind {
 }
 
 // A code of a date item: the place of its byte among the 24 that are handed in for the codes from 55h on, or a sign of its own.
-#[derive(Drop)]
+#[derive(Clone, Copy)]
 pub enum Code {
     Entry(u8),
     Colon,
@@ -28,7 +28,7 @@ pub enum Code {
 }
 
 // What a byte is as a code.
-#[derive(Drop)]
+#[derive(Clone, Copy)]
 pub enum Coded {
     Code(Code),
     Not,

@@ -9,7 +9,7 @@ use crate::position::{Run, run_at};
 use frame::build::lay;
 use frame::given::{Given, Where, placed};
 
-#[derive(Drop)]
+#[derive(Clone, Copy)]
 pub enum Edited {
     Done,
     // The number, and the address or the symbol's index.

@@ -13,7 +13,7 @@ pub const LINES: u8 = 4;
 pub const FIELDS: u8 = 10;
 
 // In what we are.
-#[derive(Drop)]
+#[derive(Clone, Copy)]
 pub enum Place {
     // Before the first line.
     Content,
@@ -25,21 +25,21 @@ pub enum Place {
 }
 
 // How many lines and external fields have begun.
-#[derive(Drop)]
+#[derive(Clone, Copy)]
 pub struct Seen {
     pub lines: u8,
     pub fields: u8,
 }
 
 // Where the reader stands: at which place of the bytes, in what, and what has begun before it.
-#[derive(Drop)]
+#[derive(Clone, Copy)]
 pub struct Reader {
     pub at: usize,
     pub place: Place,
     pub seen: Seen,
 }
 
-#[derive(Drop)]
+#[derive(Clone, Copy)]
 pub enum Item {
     LineOpens,
     // The expansion and the font of a block.
@@ -58,7 +58,7 @@ pub enum Item {
 }
 
 // What the reader finds.
-#[derive(Drop)]
+#[derive(Clone, Copy)]
 pub enum Token {
     // An item, and the place behind it.
     Read { item: Item, next: usize },

@@ -1,4 +1,6 @@
 // What a message is: the reader of items, the test, character positions, edits, updates and strips.
+#![tactic(auto)]
+
 pub mod byte;
 pub mod edit;
 pub mod item;

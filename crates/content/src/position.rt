@@ -5,7 +5,7 @@ ghost use Rattle.content.specs.Position.{Runs, field_positions, is_field_positio
 use crate::item::{Item, Reader, Token, begin, past, piece_at};
 
 // What a byte is to edits and updates.
-#[derive(Drop)]
+#[derive(Clone, Copy)]
 pub enum Mark {
     Structure,
     Character,
@@ -13,7 +13,7 @@ pub enum Mark {
 }
 
 // The next character positions in a row.
-#[derive(Drop)]
+#[derive(Clone, Copy)]
 pub enum Run {
     // What they are, from which place on they stand, and where the reader stands behind them.
     Found {

@@ -10,7 +10,7 @@ use frame::build::{Built, lay};
 use frame::given::plain;
 
 // What items stand for: the counter's digits, and for the date codes from 55h on a byte each.
-#[derive(Drop)]
+#[derive(Clone, Copy)]
 pub struct Values {
     pub digits: [u8; 9],
     pub entries: [u8; 24],

@@ -9,7 +9,7 @@ use frame::given::{Given, placed, plain};
 // The longest message.
 pub const MESSAGE: usize = 512;
 
-#[derive(Drop)]
+#[derive(Clone, Copy)]
 pub enum Verdict {
     Good,
     // The place of the first byte that can't stand there, or the count of the bytes where they merely stop early.

@@ -8,7 +8,7 @@ use crate::position::{Run, field_positions, is_field_position, run_at};
 use frame::build::lay;
 use frame::given::{Given, placed, plain};
 
-#[derive(Drop)]
+#[derive(Clone, Copy)]
 pub enum Updated {
     Laid,
     // The number, and for 13 the character's index.

@@ -19,6 +19,7 @@ empty e (later a) = omega arith
 
 -- Whatever applies behind a test has a rank no earlier than its number.
 behind : {g : Given} (k : ℕ) (ts : List Test) → leads k ts ≡ true → Applies g ts → rank k ≤ rank g.number
+behind {g = g} k [] l x = elim x [ ]
 behind k (t ∷ ts) l (here e) = leb-true _ _ (both_true (leb (rank k) (rank t.otherwise.number)) (leads k ts) l).0
 behind k (t ∷ ts) l (later a) = behind k ts (both_true (leb (rank k) (rank t.otherwise.number)) (leads k ts) l).1 a
 

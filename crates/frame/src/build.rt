@@ -7,7 +7,7 @@ use crate::given::{Given, plain};
 use crate::wire::{AROUND, DATA, HEAD, check, listed, size_of};
 
 // What comes of writing a frame, or a strip.
-#[derive(Drop)]
+#[derive(Clone, Copy)]
 pub enum Built {
     // Of a frame numbers 2, 4 and 6: the buffer is under data + 4, data is over 550, the identifier is not in the table.
     // Of a strip numbers 10 and 2: the bytes are no content, the buffer is too short.

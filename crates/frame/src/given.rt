@@ -3,7 +3,7 @@ ghost use Rattle.std.specs.Prelude.{◌≡◌};
 ghost use Rattle.frame.specs.Ground.{placed, plain};
 
 // Where what is refused stands.
-#[derive(Drop)]
+#[derive(Clone, Copy)]
 pub enum Where {
     // The number has no place.
     Nowhere,
@@ -11,7 +11,7 @@ pub enum Where {
     At(usize),
 }
 
-#[derive(Drop)]
+#[derive(Clone, Copy)]
 pub struct Given {
     pub number: u8,
     pub place: Where,

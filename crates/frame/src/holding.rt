@@ -8,7 +8,7 @@ use crate::wire::{DATA, HEAD, MARKS, UPDATE, word};
 // How many bytes the lent buffer has: as many as the longest update.
 pub const HOLDING: usize = UPDATE + MARKS;
 
-#[derive(Drop)]
+#[derive(Clone, Copy)]
 pub enum Holding {
     // So many bytes at the front of the lent buffer.
     Held(usize),

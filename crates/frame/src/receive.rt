@@ -11,7 +11,7 @@ const TEXT: usize = UPDATE + 1;
 // How many bytes the longest update has: 1,024.
 const WHOLE: usize = UPDATE + MARKS;
 
-#[derive(Drop)]
+#[derive(Clone, Copy)]
 pub enum Received {
     // Not whole yet: number 3, nothing is consumed.
     Partial,

@@ -18,7 +18,7 @@ pub(crate) const UPDATE: usize = 1022;
 pub(crate) const MARKS: usize = 2;
 
 // How many data bytes an identifier asks for.
-#[derive(Drop)]
+#[derive(Clone, Copy)]
 pub enum Size {
     Exactly(usize),
     AtLeast(usize),

@@ -8,7 +8,7 @@ use frame::wire::word;
 pub const HEAD: usize = 5;
 
 // What stands at a place of a store.
-#[derive(Drop)]
+#[derive(Clone, Copy)]
 pub enum Step {
     // A record, and where it ends.
     Read { number: u8, end: usize },

@@ -1,11 +1,13 @@
 // The console's line for a call: the number in decimal, where it has a place a colon and the place, a space, the answer in capital hex, and a newline.
+#![tactic(auto)]
+
 ghost use Rattle.std.specs.Prelude.{◌*◌, ◌<◌, ◌≤◌, length, ◌≡◌};
 ghost use Rattle.frame.specs.Ground.{over};
 ghost use Rattle.line.specs.Line.{Writes, decimal, given_text, hex, hex_digit};
 
 use frame::given::{Given, Where};
 
-#[derive(Drop)]
+#[derive(Clone, Copy)]
 pub enum Lined {
     // The buffer is too small, and nothing is written.
     Short,

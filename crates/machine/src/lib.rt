@@ -1,4 +1,6 @@
 // The machine's clock.
+#![tactic(auto)]
+
 use libc::CLOCK_MONOTONIC;
 use libc::types::timespec;
 

@@ -10,7 +10,7 @@ pub const ANSWER: usize = 554;
 
 pub const STRIPS: usize = 6144;
 
-#[derive(Drop)]
+#[derive(Clone, Copy)]
 pub struct Answered {
     pub number: u8,
     // The place that the number has, if it has one.

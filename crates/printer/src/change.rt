@@ -18,7 +18,7 @@ use frame::given::{Given, placed, plain};
 use frame::wire::word;
 
 // What a frame changes on the jet that it names: 0Ah the message, 0Bh the parameters, 0Ch both, 42h characters of the message.
-#[derive(Drop)]
+#[derive(Clone, Copy)]
 pub(crate) enum Change {
     Message,
     Parameters,

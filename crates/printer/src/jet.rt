@@ -18,14 +18,14 @@ use frame::given::{Given, plain};
 use frame::wire::word;
 
 // "A jet number is never a head number": two kinds of number, and `head_jet` the only way across.
-#[derive(Drop)]
+#[derive(Clone, Copy)]
 pub struct JetNumber(u8);
 
-#[derive(Drop)]
+#[derive(Clone, Copy)]
 pub struct HeadNumber(u8);
 
 // What is asked of every jet of a state: whether a valid state may have it so, and whether it can print.
-#[derive(Drop)]
+#[derive(Clone, Copy)]
 pub(crate) enum Question {
     Valid,
     Ready,

@@ -1,4 +1,6 @@
 // The printer: jets and heads, counters, the state, the messages in the store, and every call of the box.
+#![tactic(auto)]
+
 pub mod answer;
 pub mod call;
 pub mod change;

@@ -20,14 +20,14 @@ use frame::build::{answer, lay, wrap};
 use frame::wire::{AROUND, HEAD};
 
 // A number, and for 0 how many bytes the frame has.
-#[derive(Drop)]
+#[derive(Clone, Copy)]
 pub(crate) struct Told {
     pub number: u8,
     pub size: usize,
 }
 
 // What a frame asks of the jet that it names: 39h its counter, 43h its message.
-#[derive(Drop)]
+#[derive(Clone, Copy)]
 pub(crate) enum Request {
     Counter,
     Message,

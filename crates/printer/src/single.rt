@@ -16,7 +16,7 @@ use crate::state::valid_state;
 use frame::holding::{Holding, is_holding};
 
 // What came of a byte, and what is held behind it.
-#[derive(Drop)]
+#[derive(Clone, Copy)]
 pub struct Taken {
     pub answered: Answered,
     pub holding: Holding,

@@ -14,7 +14,7 @@ pub(crate) const ROOM: usize = 2_816;
 
 pub(crate) const SPACE: usize = 8_256;
 
-#[derive(Drop)]
+#[derive(Clone, Copy)]
 pub(crate) struct Rooms {
     pub state: usize,
     pub store: usize,

@@ -12,7 +12,7 @@ use line::{Lined, write_line};
 pub(crate) const BUFFER: usize = 1_600;
 
 // How the first bytes of a line change the others: an edit from an address on, as 42h does; an update; a text laid as far as it goes.
-#[derive(Drop)]
+#[derive(Clone, Copy)]
 pub(crate) enum Way {
     Edit(usize),
     Update,

@@ -1,4 +1,6 @@
 // The table of samples: standard input is a line for each call, and each is written again with its outcome behind it.
+#![tactic(auto)]
+
 mod aboard;
 mod call;
 mod lower;

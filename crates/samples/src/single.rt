@@ -12,7 +12,7 @@ use serving::hold::serve;
 pub(crate) const HELD: usize = 1_088;
 
 // Who takes the bytes: the receiver for single bytes, or a program on a line.
-#[derive(Drop)]
+#[derive(Clone, Copy)]
 enum By {
     Receiver,
     Program,

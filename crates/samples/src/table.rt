@@ -404,7 +404,7 @@ fn is_room(line: &[u8]) -> bool {
 }
 
 // What a line leaves to the next: the rooms, and what is held between single bytes.
-#[derive(Drop)]
+#[derive(Clone, Copy)]
 struct Left {
     rooms: Rooms,
     holding: Holding,

@@ -111,7 +111,7 @@ fn hex_digit(b: u8) -> u8
 }
 
 // How bytes are written: two hex digits each, characters between quotation marks, and `41*508` for 508 times 41h.
-#[derive(Drop)]
+#[derive(Clone, Copy)]
 enum Mode {
     Hex,
     Quoted,
@@ -119,7 +119,7 @@ enum Mode {
 }
 
 // How far the bytes of a line are read: how many there are, the first digit of the next (16 where it is to come), and how often the last is said to stand there.
-#[derive(Drop)]
+#[derive(Clone, Copy)]
 struct Reading {
     mode: Mode,
     count: usize,

@@ -5,7 +5,7 @@ ghost use Rattle.serving.specs.Pace.{count, due, instant_of, is_silence, since, 
 use printer::call::tick;
 
 // A moment of the machine's clock, which counts seconds and nanoseconds; there is none where the clock could not be read.
-#[derive(Drop)]
+#[derive(Clone, Copy)]
 pub enum Instant {
     At(u64),
     Unknown,

@@ -75,7 +75,7 @@ pub fn watchdog_of(s: &[u8]) -> u8
     if_written(pair(s[0], s[1]))
 }
 
-#[derive(Drop)]
+#[derive(Clone, Copy)]
 pub enum Start {
     At(Clock),
     Unreadable,

@@ -4,7 +4,6 @@ use mathlib.Core.Bool.{Bool, true}
 use mathlib.Core.List.{List, ◌++◌, append_assoc}
 use mathlib.Core.Path.{◌≡◌, refl, sym, ◌∙◌, ap, ap₂}
 use native.Mathlib.Omega.{arith}
-use borrow.Author.Rules.{rules}
 use borrow.Author.Tests.{not-true, not-false, le-leb}
 use borrow.Rule.Slice.PartMut.{mid_of, put_mid}
 use lib.ListN.{length, take, drop, length-append, take-append-drop}
@@ -16,8 +15,7 @@ use Rattle.frame.specs.declared.build.Built.{Built}
 use Rattle.frame.specs.declared.build.Built.TheVariants.{Refused}
 use Rattle.frame.proofs.Ground.{tests, length_over, over_under, laid_behind}
 use Rattle.frame.proofs.Told.{frame_length, answered_fits}
-use Rattle.frame.proofs.build.send.Statement.{statement}
-use Rattle.frame.proofs.build.send.Tie as tie
+use Rattle.frame.proofs.build.send.Goals as goal
 
 -- The buffer when what was lent behind its first three bytes is back.
 abbrev back : List ℕ → List ℕ → List ℕ
@@ -63,54 +61,30 @@ module _ (identifier : ℕ) (before d last : List ℕ) (laid : Bool) (h : length
             ∙ ap (λ (x : Built). over (bytes_of x identifier d) before) (sym (e ∙ fits));
       }
 
-returns : tie.Need-returns
-returns c = record { answer = ap Refused c.plain.ensures ∙ search tests; buffer = refl }
+pub returns-then-out-n : goal.returns-then-out-n
+returns-then-out-n c = record { answer = ap Refused c.plain.ensures ∙ search tests; buffer = refl }
 
-returns-2 : tie.Need-returns-2
-returns-2 c = record { answer = ap Refused c.plain2.ensures ∙ search tests; buffer = refl }
+pub returns-then-n-gt-DATA : goal.returns-then-n-gt-DATA
+returns-then-n-gt-DATA c = record { answer = ap Refused c.plain-then-n-gt-DATA.ensures ∙ search tests; buffer = refl }
 
-returns-3 : tie.Need-returns-3
-returns-3 c =
-    let a = c.before.before.before.before.before.before.args in
+pub returns-then-not-known : goal.returns-then-not-known
+returns-then-not-known c =
+    let a = c.args in
     record {
       answer =
-          ap Refused c.plain3.ensures
+          ap Refused c.plain-then-not-known.ensures
           ∙ rw (
             le-leb (length a.bytes.now + around) (length a.out.now) (omega arith),
             le-leb (length a.bytes.now) longest_data (omega arith),
-            not-true a.known c.before.if3.true,
+            not-true a.known c.if-not-known.true-raw,
           );
       buffer = refl;
     }
 
-returns-4 : tie.Need-returns-4
-returns-4 c =
-    let at-wrap = c.before.before in
-    let at-lay = at-wrap.before.before.before.before in
-    let tested = at-lay.before.before in
-    let at-if2 = tested.before in
-    let at-if1 = at-if2.before in
-    let a = at-if1.before.before.before.args in
-    let lay = at-lay.lay in
-    let wrap = at-wrap.wrap in
-    written a.identifier a.out.now a.bytes.now lay.new.0 lay.result at-if2.if2.false at-if1.if1.false lay.ensures
-    a.known wrap.result wrap.new.0 (not-false a.known tested.if3.false) wrap.ensures
-
-pub send_spec : {M : Type 1} → statement M
-send_spec =
-    tie.close
-    (tie.spec
-    (λ c. search rules)
-    (λ c κs. search rules)
-    returns
-    (λ c κs. search rules)
-    returns-2
-    (λ c κs. search rules)
-    returns-3
-    (λ c. search rules)
-    (λ c. search rules)
-    (λ c. search rules)
-    (λ c κs. search rules)
-    (λ c κs. search rules)
-    (λ c. search rules)
-    returns-4)
+pub returns : goal.returns
+returns c =
+    let a = c.args in
+    let lay = c.lay in
+    let wrap = c.wrap in
+    written a.identifier a.out.now a.bytes.now lay.new.out lay.result c.if-n-gt-DATA.false c.if-out-n.false lay.ensures
+    a.known wrap.result wrap.new.out (not-false a.known c.if-not-known.false-raw) wrap.ensures

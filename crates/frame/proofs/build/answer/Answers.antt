@@ -3,13 +3,11 @@ use Prim.Native.Nat.{ℕ}
 use mathlib.Core.Bool.{true}
 use mathlib.Core.List.{List}
 use mathlib.Core.Path.{refl}
-use borrow.Author.Rules.{rules}
 use lib.ListN.{length}
 use Rattle.frame.specs.Build.{answered, answer_tests, Sends, Answers}
 use Rattle.frame.specs.declared.build.Built.{Built}
 use Rattle.frame.proofs.Told.{reported}
-use Rattle.frame.proofs.build.answer.Statement.{statement}
-use Rattle.frame.proofs.build.answer.Tie as tie
+use Rattle.frame.proofs.build.answer.Goals as goal
 
 answers : (before : List ℕ) (identifier : ℕ) (d : List ℕ) (r : Built) (after : List ℕ) → Sends before identifier d true r after → Answers before identifier d r after
 unfolding answered
@@ -20,12 +18,8 @@ answers before identifier d r after s =
       buffer = s.buffer;
     }
 
-returns : tie.Need-returns
+pub returns : goal.returns
 returns c =
-    let at-send = c.before.before in
-    let a = at-send.before.before.before.before.args in
-    let s = at-send.send in
-    answers a.out.now a.identifier a.bytes.now s.result s.new.0 s.ensures
-
-pub answer_spec : {M : Type 1} → statement M
-answer_spec = tie.close (tie.spec (λ c κs. search rules) (λ c. search rules) returns)
+    let a = c.args in
+    let s = c.send in
+    answers a.out.now a.identifier a.bytes.now s.result s.new.out s.ensures

@@ -3,7 +3,6 @@ use Prim.Native.Nat.{ℕ, ◌+◌, ◌/◌, ◌%◌, ◌≤◌}
 use mathlib.Core.List.{List, [], ◌∷◌, ◌++◌}
 use mathlib.Core.Path.{◌≡◌, refl, sym, ◌∙◌, ap, ap₂}
 use native.Mathlib.Omega.{arith}
-use borrow.Author.Rules.{rules}
 use borrow.Author.Tests.{le-leb, lt-leb, leb-true}
 use lib.Dec.{leb}
 use lib.ListN.{length, set, take, drop, length-set}
@@ -15,8 +14,7 @@ use Rattle.frame.specs.declared.build.Built.{Built}
 use Rattle.frame.specs.declared.build.Built.TheVariants.{Refused, Written}
 use Rattle.frame.proofs.Ground.{both_true, over_next, over_kept}
 use Rattle.frame.proofs.Told.{reported, answered_fits, data_held}
-use Rattle.frame.proofs.build.wrap.Statement.{statement}
-use Rattle.frame.proofs.build.wrap.Tie as tie
+use Rattle.frame.proofs.build.wrap.Goals as goal
 
 -- The buffer when the three bytes of the head are stored, and the data behind them.
 abbrev opened : ℕ → ℕ → List ℕ → List ℕ
@@ -66,69 +64,43 @@ module _ (identifier n : ℕ) (before : List ℕ) (h : n ≤ longest_data) (g : 
       (ap₂ (λ (l : List ℕ) (j : ℕ). set l (n + head_size) j) bodied q
       ∙ over_next (body identifier d) before (n + head_size) (check (body identifier d)) k (omega arith))
 
-returns : tie.Need-returns
+pub returns-then-out-lt-AROUND : goal.returns-then-out-lt-AROUND
 unfolding answered
-returns c =
-    let a = c.before.before.before.args in
+returns-then-out-lt-AROUND c =
+    let a = c.args in
     wraps a.identifier a.n a.out.now (Refused c.plain.result) a.out.now (ap Refused c.plain.ensures ∙ rw (lt-leb (a.n + around) (length a.out.now) (omega arith))) refl
 
-returns-2 : tie.Need-returns-2
+pub returns-then-out-n : goal.returns-then-out-n
 unfolding answered
-returns-2 c =
-    let a = c.before.before.before.before.args in
-    wraps a.identifier a.n a.out.now (Refused c.plain2.result) a.out.now (ap Refused c.plain2.ensures ∙ rw (lt-leb (a.n + around) (length a.out.now) (omega arith))) refl
+returns-then-out-n c =
+    let a = c.args in
+    wraps a.identifier a.n a.out.now (Refused c.plain-then-out-n.result) a.out.now (ap Refused c.plain-then-out-n.ensures ∙ rw (lt-leb (a.n + around) (length a.out.now) (omega arith))) refl
 
-returns-3 : tie.Need-returns-3
+pub returns-then-n-gt-DATA : goal.returns-then-n-gt-DATA
 unfolding answered
-returns-3 c =
-    let a = c.before.before.before.before.before.args in
-    wraps a.identifier a.n a.out.now (Refused c.plain3.result) a.out.now
-    (ap Refused c.plain3.ensures ∙ rw (le-leb (a.n + around) (length a.out.now) (omega arith), lt-leb a.n longest_data (omega arith))) refl
+returns-then-n-gt-DATA c =
+    let a = c.args in
+    wraps a.identifier a.n a.out.now (Refused c.plain-then-n-gt-DATA.result) a.out.now
+    (ap Refused c.plain-then-n-gt-DATA.ensures ∙ rw (le-leb (a.n + around) (length a.out.now) (omega arith), lt-leb a.n longest_data (omega arith))) refl
 
-slice-write-out-2 : tie.Need-slice-write-out-2
-slice-write-out-2 c = simp length-set (omega arith)
+pub bounds-out-1 : goal.bounds-out-1
+bounds-out-1 c = simp length-set (omega arith)
 
-slice-write-out-3 : tie.Need-slice-write-out-3
-slice-write-out-3 c = simp length-set (omega arith)
+pub bounds-out-2 : goal.bounds-out-2
+bounds-out-2 c = simp length-set (omega arith)
 
-slice-reshare-prefix-check : tie.Need-slice-reshare-prefix-check
-slice-reshare-prefix-check c = simp length-set (omega arith)
+pub slice_bounds-check-end : goal.slice_bounds-check-end
+slice_bounds-check-end c = simp length-set (omega arith)
 
-slice-aggregate-check : tie.Need-slice-aggregate-check
-slice-aggregate-check c =
-    let a = c.before.before.before.before.before.args in
+pub slice_bounds-check-end-2 : goal.slice_bounds-check-end-2
+slice_bounds-check-end-2 c =
+    let a = c.args in
     sym (length-take-le (a.n + head_size) (opened a.identifier a.n a.out.now) (simp length-set (omega arith)))
 
-slice-write-out-4 : tie.Need-slice-write-out-4
-slice-write-out-4 c = simp length-set (omega arith)
+pub bounds-out-n : goal.bounds-out-n
+bounds-out-n c = simp length-set (omega arith)
 
-returns-4 : tie.Need-returns-4
-returns-4 c =
-    let a = c.before.before.before.before.before.before.args in
-    written a.identifier a.n a.out.now (omega arith) (omega arith) c.check.result c.check.ensures
-
-pub wrap_spec : {M : Type 1} → statement M
-wrap_spec =
-    tie.close
-    (tie.spec
-    (λ c κs. search rules)
-    returns
-    (λ c. search rules)
-    (λ c κs. search rules)
-    returns-2
-    (λ c κs. search rules)
-    returns-3
-    (λ c. search rules)
-    (λ c. search rules)
-    slice-write-out-2
-    (λ c. search rules)
-    slice-write-out-3
-    (λ c. search rules)
-    slice-reshare-prefix-check
-    slice-aggregate-check
-    (λ c κs. search rules)
-    (λ c. search rules)
-    slice-write-out-4
-    (λ c. search rules)
-    (λ c. search rules)
-    returns-4)
+pub returns : goal.returns
+returns c =
+    let a = c.args in
+    written a.identifier a.n a.out.now (omega arith) (omega arith) c.check-c.result c.check-c.ensures

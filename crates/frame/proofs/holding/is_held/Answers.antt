@@ -3,7 +3,6 @@ use Prim.Native.Nat.{ℕ, suc, ◌≤◌, ◌+◌}
 use mathlib.Core.List.{List}
 use mathlib.Core.Path.{◌≡◌, ap, ◌∙◌}
 use native.Mathlib.Omega.{arith}
-use borrow.Author.Rules.{rules}
 use borrow.Author.Tests.{eq-eqb, ne_eqb, le-leb, le-ltb}
 use lib.Dec.{eqb, leb}
 use lib.ListN.{length, get_or}
@@ -12,8 +11,7 @@ use Rattle.frame.specs.Receive.{data_length, run, text_space}
 use Rattle.frame.specs.Holding.{is_held}
 use Rattle.frame.proofs.Ground.{tests, text_length}
 use Rattle.frame.proofs.Held.{eqb_next, free_text, run_most}
-use Rattle.frame.proofs.holding.is_held.Statement.{statement}
-use Rattle.frame.proofs.holding.is_held.Tie as tie
+use Rattle.frame.proofs.holding.is_held.Goals as goal
 
 open_update : (s : List ℕ) (n : ℕ) → (length s ≡ 0 → ⊥) → get_or s 0 0 ≡ update_opens → length s ≤ longest_update + 1
     → n ≡ run update_closes (text_space s) → eqb (n + 1) (length s) ≡ is_held s
@@ -36,66 +34,38 @@ open_frame s n h h₅ h₂ g q m =
       le-leb n longest_data m,
     )
 
-returns : tie.Need-returns
+pub returns-then-s-eq0 : goal.returns-then-s-eq0
 unfolding is_held
-returns c = search tests
+returns-then-s-eq0 c = search tests
 
-returns-2 : tie.Need-returns-2
+pub returns-then-first-eq5 : goal.returns-then-first-eq5
 unfolding is_held
-returns-2 c = search tests
+returns-then-first-eq5 c = search tests
 
-returns-3 : tie.Need-returns-3
+pub returns-then-s : goal.returns-then-s
 unfolding is_held
-returns-3 c = search tests
+returns-then-s c = search tests
 
-add-result : tie.Need-overflow-add-result
-add-result c =
-    let at_start = c.before.before.before.before.before.before.before in
-    let s = at_start.args.s.now in
-    let e = c.update-size.ensures in
-    let shorter = c.before.if4.false in
+pub overflow_add-result : goal.overflow_add-result
+overflow_add-result c =
+    let s = c.args.s.now in
+    let e = c.update_size.ensures in
+    let shorter = c.if-s.false in
     omega (arith, e, shorter, run_most update_closes (text_space s), text_length s)
 
-returns-4 : tie.Need-returns-4
-returns-4 c =
-    let at-if3 = c.before.before in
-    let at-if1 = at-if3.before.before.before in
-    open_update at-if1.before.before.args.s.now c.update-size.result at-if1.if1.false at-if3.if3.true c.before.if4.false c.update-size.ensures
+pub returns-then-first-eq2 : goal.returns-then-first-eq2
+returns-then-first-eq2 c =
+    open_update c.args.s.now c.update_size.result c.if-s-eq0.false c.if-first-eq2.true c.if-s.false c.update_size.ensures
 
-returns-5 : tie.Need-returns-5
+pub returns-then-s-lt-HEAD : goal.returns-then-s-lt-HEAD
 unfolding is_held
-returns-5 c = search tests
+returns-then-s-lt-HEAD c = search tests
 
-returns-6 : tie.Need-returns-6
+pub returns-then-n-gt-DATA : goal.returns-then-n-gt-DATA
 unfolding is_held
-returns-6 c = rw (← c.before.word.ensures.value) (search tests)
+returns-then-n-gt-DATA c = rw (← c.word-n.ensures.value) (search tests)
 
-returns-7 : tie.Need-returns-7
-returns-7 c =
-    let at-word = c.before in
-    let at-if5 = at-word.before.before.before in
-    let at-if3 = at-if5.before in
-    let at-if2 = at-if3.before in
-    let at-if1 = at-if2.before.before in
-    open_frame at-if1.before.before.args.s.now at-word.word.result
-    at-if1.if1.false at-if2.if2.false at-if3.if3.false at-if5.if5.false at-word.word.ensures.value c.if6.false
-
-pub is_held_spec : {M : Type 1} → statement M
-is_held_spec =
-    tie.close
-    (tie.spec
-    returns
-    (λ c. search rules)
-    returns-2
-    (λ c. search rules)
-    returns-3
-    (λ c κs. search rules)
-    add-result
-    returns-4
-    returns-5
-    (λ c. search rules)
-    (λ c. search rules)
-    (λ c κs. search rules)
-    returns-6
-    (λ c. search rules)
-    returns-7)
+pub returns : goal.returns
+returns c =
+    open_frame c.args.s.now c.word-n.result
+    c.if-s-eq0.false c.if-first-eq5.false c.if-first-eq2.false c.if-s-lt-HEAD.false c.word-n.ensures.value c.if-n-gt-DATA.false

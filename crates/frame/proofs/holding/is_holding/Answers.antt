@@ -2,17 +2,15 @@
 use Prim.Native.Nat.{ℕ, ◌≤◌, ◌<◌}
 use mathlib.Core.Bool.{Bool, true, false}
 use mathlib.Core.List.{List}
-use mathlib.Core.Path.{◌≡◌, refl, sym}
+use mathlib.Core.Path.{◌≡◌, sym}
 use native.Mathlib.Omega.{arith}
-use borrow.Author.Rules.{rules}
 use borrow.Author.Tests.{eq-eqb, ne_eqb, le-ltb, lt-ltb}
 use lib.ListN.{length, take}
 use lib.Seq.{length-take-le}
 use Rattle.frame.specs.Holding.{holding_size, is_held, is_holding}
 use Rattle.frame.specs.declared.holding.Holding.{Holding}
 use Rattle.frame.specs.declared.holding.Holding.TheVariants.{Held, Dropping}
-use Rattle.frame.proofs.holding.is_holding.Statement.{statement}
-use Rattle.frame.proofs.holding.is_holding.Tie as tie
+use Rattle.frame.proofs.holding.is_holding.Goals as goal
 
 other_size : (h : Holding) (buffer : List ℕ) → (length buffer ≡ holding_size → ⊥) → false ≡ is_holding h buffer
 unfolding is_holding
@@ -32,45 +30,25 @@ while_dropping : (h : Holding) (buffer : List ℕ) → h ≡ Dropping → length
 unfolding is_holding
 while_dropping h buffer e g = rw (e, eq-eqb (length buffer) holding_size g)
 
-returns : tie.Need-returns
-returns c = other_size c.before.before.args.holding c.before.before.args.buffer.now c.if1.true
+pub returns-then-buffer-ne-HOLDING : goal.returns-then-buffer-ne-HOLDING
+returns-then-buffer-ne-HOLDING c = other_size c.args.holding c.args.buffer.now c.if-buffer-ne-HOLDING.true
 
-returns-2 : tie.Need-returns-2
-returns-2 c =
-    let at-holding = c.before.before in
-    let at-if1 = at-holding.before.before in
-    let a = at-if1.before.before.args in
-    too_many a.holding _ a.buffer.now at-holding.holding.given.1 at-if1.if1.false c.if2.true
+pub returns-then-n-ge-HOLDING : goal.returns-then-n-ge-HOLDING
+returns-then-n-ge-HOLDING c =
+    let a = c.args in
+    too_many a.holding _ a.buffer.now c.in-Held.is c.if-buffer-ne-HOLDING.false c.if-n-ge-HOLDING.true
 
-slice-aggregate-is-held : tie.Need-slice-aggregate-is-held
-slice-aggregate-is-held c =
-    let at-if1 = c.before.before.before.before.before in
-    let full = at-if1.if1.false in
-    sym (length-take-le _ at-if1.before.before.args.buffer.now (omega (arith, full, c.before.if2.false)))
+pub slice_bounds-is_held-end : goal.slice_bounds-is_held-end
+slice_bounds-is_held-end c =
+    let full = c.if-buffer-ne-HOLDING.false in
+    sym (length-take-le _ c.args.buffer.now (omega (arith, full, c.if-n-ge-HOLDING.false)))
 
-returns-3 : tie.Need-returns-3
-returns-3 c =
-    let at-if2 = c.before.before in
-    let at-holding = at-if2.before.before in
-    let at-if1 = at-holding.before.before in
-    let a = at-if1.before.before.args in
-    as_held a.holding _ a.buffer.now at-holding.holding.given.1 at-if1.if1.false at-if2.if2.false c.is_held.ensures
+pub returns-else-n-ge-HOLDING : goal.returns-else-n-ge-HOLDING
+returns-else-n-ge-HOLDING c =
+    let a = c.args in
+    as_held a.holding _ a.buffer.now c.in-Held.is c.if-buffer-ne-HOLDING.false c.if-n-ge-HOLDING.false c.is_held.ensures
 
-returns-4 : tie.Need-returns-4
-returns-4 c =
-    let at-if1 = c.before.before in
-    let a = at-if1.before.before.args in
-    while_dropping a.holding a.buffer.now c.enum_told.given.1 at-if1.if1.false
-
-pub is_holding_spec : {M : Type 1} → statement M
-is_holding_spec =
-    tie.close
-    (tie.spec
-    returns
-    (λ c. search rules)
-    returns-2
-    slice-aggregate-is-held
-    (λ c κs. search rules)
-    (λ c. search rules)
-    returns-3
-    returns-4)
+pub returns-in-Dropping : goal.returns-in-Dropping
+returns-in-Dropping c =
+    let a = c.args in
+    while_dropping a.holding a.buffer.now c.in-Dropping.is c.if-buffer-ne-HOLDING.false

@@ -3,14 +3,12 @@ use Prim.Native.Nat.{ℕ}
 use mathlib.Core.Bool.{Bool}
 use mathlib.Core.List.{List}
 use mathlib.Core.Path.{◌≡◌, refl, ◌∙◌, ap}
-use borrow.Author.Rules.{rules}
 use lib.ListN.{length}
 use Rattle.frame.specs.Wire.{listed, size_of}
 use Rattle.frame.specs.Build.{decided, send_tests, built, build_tests, Sends, Builds}
 use Rattle.frame.specs.declared.build.Built.{Built}
 use Rattle.frame.proofs.Told.{reported}
-use Rattle.frame.proofs.build.build.Statement.{statement}
-use Rattle.frame.proofs.build.build.Tie as tie
+use Rattle.frame.proofs.build.build.Goals as goal
 
 builds : (before : List ℕ) (identifier : ℕ) (d : List ℕ) (known : Bool) (r : Built) (after : List ℕ) → known ≡ listed (size_of identifier)
     → Sends before identifier d known r after → Builds before identifier d r after
@@ -19,16 +17,10 @@ builds before identifier d known r after k s =
     let e : r ≡ built (length before) identifier (length d) = s.answer ∙ ap (λ (b : Bool). decided (send_tests (length before) b (length d)) (length d)) k in
     record { answer = e; reports = reported (build_tests (length before) identifier (length d)) (length d) identifier d r e (λ a. refl); buffer = s.buffer }
 
-returns : tie.Need-returns
+pub returns : goal.returns
 returns c =
-    let at-send = c.before.before in
-    let at_Listed = at-send.before in
-    let at-size-of = at_Listed.before in
-    let a = at-size-of.before.before.before.before.args in
-    let s = at-send.send in
-    let k = at_Listed.listed in
-    let t = at-size-of.size_of in
-    builds a.out.now a.identifier a.bytes.now k.result s.result s.new.0 (k.ensures ∙ ap listed t.ensures) s.ensures
-
-pub build_spec : {M : Type 1} → statement M
-build_spec = tie.close (tie.spec (λ c κs. search rules) (λ c κs. search rules) (λ c κs. search rules) (λ c. search rules) returns)
+    let a = c.args in
+    let s = c.send in
+    let k = c.listed in
+    let t = c.size_of in
+    builds a.out.now a.identifier a.bytes.now k.result s.result s.new.out (k.ensures ∙ ap listed t.ensures) s.ensures
