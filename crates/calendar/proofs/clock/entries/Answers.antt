@@ -1,0 +1,15 @@
+-- `calendar::clock::entries` meets its contract. A month's entry has three letters, and the digits are
+-- those that `tens` and `ones` tell.
+use mathlib.Core.Path.{◌≡◌}
+use borrow.Author.Rules.{rules}
+use lib.ListN.{length}
+use Rattle.calendar.proofs.Moments.{moment_entries}
+use Rattle.calendar.proofs.clock.entries.Goals as goal
+
+three-letters : (c : goal.After-month_entry-letters) → length c.month_entry-letters.result ≡ 3
+three-letters c = search rules
+
+pub returns : goal.returns
+returns c =
+    rw (c.tens.ensures, c.ones.ensures, c.tens-2.ensures, c.ones-2.ensures, c.tens-3.ensures, c.ones-3.ensures)
+    (moment_entries c.args.c c.month_entry-letters.result (three-letters c.before.before.before.before.before.before) c.month_entry-letters.ensures)

@@ -1,0 +1,41 @@
+-- `printer::change::change_order` meets its contract: 8 where the jet is not on the printer, and else what becomes of the jet's part.
+use Prim.Native.Nat.{ℕ, ◌≤◌}
+use native.Mathlib.Omega.{arith}
+use Rattle.printer.specs.Order.{jet_number}
+use Rattle.printer.specs.Change.{least_data}
+use Rattle.printer.specs.declared.change.Change.{Change}
+use Rattle.printer.specs.declared.change.Change.TheVariants.{Message, Parameters, Both, Characters}
+use Rattle.printer.proofs.Valid.{valid_size}
+use Rattle.printer.proofs.Orders.{here, refused}
+use Rattle.printer.proofs.Part.{Stands, part_inside, part_size, part_jet, part_short, part_obeys, not_named, named, stands}
+use Rattle.printer.proofs.change.change_order.Goals as goal
+
+-- Each change has its jet number.
+at_least : (what : Change) {n : ℕ} → least_data what ≤ n → 1 ≤ n
+at_least Message h = omega arith
+at_least Parameters h = omega arith
+at_least Both h = omega arith
+at_least Characters h = omega arith
+
+jet : (c : goal.Else-at-eq0) → let a = c.args in Stands a.state.now (jet_number a.d.now) «left»c.before.IsPlace-in.result
+jet c =
+    stands «left»c.before.IsPlace-in.ensures c.if-at-eq0.false (valid_size _ c.requires.0) c.type_inv.state
+
+pub place_in-at-requires : goal.place_in-at-requires
+place_in-at-requires c =
+    (valid_size _ c.requires.0, at_least c.args.what c.requires.1)
+
+pub returns-then-at-eq0 : goal.returns-then-at-eq0
+returns-then-at-eq0 c = refused c.plain.ensures (here (not_named «left»c.before.before.IsPlace-in.ensures c.if-at-eq0.true))
+
+pub slice_bounds-change_jet-end : goal.slice_bounds-change_jet-end
+slice_bounds-change_jet-end c = part_inside (jet c)
+
+pub change_jet-requires : goal.change_jet-requires
+change_jet-requires c =
+    let j = jet c.before in (part_size j, part_short j c.requires.0, c.requires.1)
+
+pub returns : goal.returns
+returns c =
+    let j = jet c.before.before.before.before in
+    part_obeys c.args.state.now c.args.d.now j (named «left»at-place-in.IsPlace-in.ensures c.if-at-eq0.false) (rw (part_jet j) at c.change_jet.ensures)
