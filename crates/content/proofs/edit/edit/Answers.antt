@@ -72,18 +72,14 @@ returns-in-At c =
     let a = c.args in
     no_position a.s.now a.address a.symbols.now c.strayed-stray.ensures c.in-At.is c.placed.ensures
 
--- The start before symbols that all land.
-abbrev start_of : tie.After-enum-told → tie.Start
-start_of c = c.before.before.before.before.before.before
-
 pub returns-then-i-symbols : goal.returns-then-i-symbols
 returns-then-i-symbols c =
-    let a = (start_of c.before.before.before).args in
+    let a = c.args in
     no_character a.s.now a.address a.symbols.now c.strayed-stray.ensures c.in-Nowhere.is c.characters_in_front-i.ensures c.if-i-symbols.true c.placed-then-i-symbols.ensures
 
 pub returns-then-address-s : goal.returns-then-address-s
 returns-then-address-s c =
-    let a = (start_of c.before.before.before.before.before.before.before).args in
+    let a = c.args in
     let p = c.strayed-stray.ensures in
     let f = c.in-Nowhere.is in
     done a.s.now a.address a.symbols.now p f c.characters_in_front-i.ensures c.if-i-symbols.false
@@ -91,7 +87,7 @@ returns-then-address-s c =
 
 pub returns-else-address-s : goal.returns-else-address-s
 returns-else-address-s c =
-    let a = (start_of c.before.before.before).args in
+    let a = c.args in
     let p = c.strayed-stray.ensures in
     let f = c.in-Nowhere.is in
     done a.s.now a.address a.symbols.now p f c.characters_in_front-i.ensures c.if-i-symbols.false

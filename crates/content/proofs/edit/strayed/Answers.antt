@@ -2,20 +2,9 @@ use Prim.Native.Nat.{◌-◌}
 use mathlib.Core.Path.{sym}
 use native.Mathlib.Omega.{arith}
 use Rattle.content.specs.Machine.{start}
-use Rattle.content.specs.Position.{Runs, marks}
-use Rattle.content.specs.declared.position.Run.TheVariants.{Found}
+use Rattle.content.specs.Position.{marks}
 use Rattle.content.proofs.Stretches.{found, found_none, none_strays, behind_strays, not_landed, lands_not, lands_whole, lands_part, lands_later, lands_nowhere}
 use Rattle.content.proofs.edit.strayed.Goals as goal
-
--- The loop's head before a run that is found, the start before the loop, and what is found.
-abbrev loop-of : tie.After-run invariant-loop decreases-loop → tie.At-loop invariant-loop decreases-loop
-loop-of c = c.before.before.before
-
-abbrev start_of : tie.At-loop invariant-loop decreases-loop → tie.Start invariant-loop decreases-loop
-start_of c = c.before.before.before.before.before.before
-
-run_of : (c : goal.In-Found-2) → let r = c.run-1.given.0 in Runs (start_of (loop-of c)).args.s.now (loop-of c).loop.reader (Found r.0 r.1.0 r.1.1.0)
-run_of c = found (start_of (loop-of c)).args.s.now (loop-of c).loop.reader c.run_at-run.ensures c.in-Found.is
 
 pub returns-then-n-eq0 : goal.returns-then-n-eq0
 returns-then-n-eq0 c = let a = c.args in none_strays (marks start a.s.now) a.address a.symbols.now (λ k h g. absurd (omega arith))
@@ -36,35 +25,30 @@ run_at-run-requires c = c.loop-first.invariant.inside
 
 pub returns-then-from-first : goal.returns-then-from-first
 returns-then-from-first c =
-    let at-loop = loop-of c.before.before in
-    lands_not at-loop.loop.inv (run_of c.before.before) c.if-from-first.true
+    lands_not c.loop-first.invariant (found c.args.s.now c.loop-first.reader c.run_at-run.ensures c.in-Found.is) c.if-from-first.true
 
 pub returns-then-end-next : goal.returns-then-end-next
 returns-then-end-next c =
-    let at-loop = loop-of c.before.before.before.before in
-    lands_whole at-loop.loop.inv (run_of c.before.before.before.before) c.if-from-first.false c.if-end-next.true
+    lands_whole c.loop-first.invariant (found c.args.s.now c.loop-first.reader c.run_at-run.ensures c.in-Found.is) c.if-from-first.false c.if-end-next.true
 
 pub loop-first-smaller-then-from-next : goal.loop-first-smaller-then-from-next
 loop-first-smaller-then-from-next c =
-    let r = run_of c.before.before.before.before.before.before in
+    let r = found c.args.s.now c.loop-first.reader c.run_at-run.ensures c.in-Found.is in
     omega (arith, r.ahead, r.some, r.inside)
 
 pub loop-first-preserved-then-from-next : goal.loop-first-preserved-then-from-next
 loop-first-preserved-then-from-next c =
-    let at-loop = loop-of c.before.before.before.before.before.before in
-    lands_part at-loop.loop.inv (run_of c.before.before.before.before.before.before) c.if-from-first.false c.if-from-next.true c.if-end-next.false
+    lands_part c.loop-first.invariant (found c.args.s.now c.loop-first.reader c.run_at-run.ensures c.in-Found.is) c.if-from-first.false c.if-from-next.true c.if-end-next.false
 
 pub loop-first-smaller : goal.loop-first-smaller
 loop-first-smaller c =
-    let r = run_of c.before.before.before.before.before.before in
+    let r = found c.args.s.now c.loop-first.reader c.run_at-run.ensures c.in-Found.is in
     omega (arith, r.ahead, r.some, r.inside)
 
 pub loop-first-preserved : goal.loop-first-preserved
 loop-first-preserved c =
-    let at-loop = loop-of c.before.before.before.before.before.before in
-    lands_later at-loop.loop.inv (run_of c.before.before.before.before.before.before) c.if-from-next.false
+    lands_later c.loop-first.invariant (found c.args.s.now c.loop-first.reader c.run_at-run.ensures c.in-Found.is) c.if-from-next.false
 
 pub returns-in-None : goal.returns-in-None
 returns-in-None c =
-    let at_start = start_of c.before.before.before in
-    lands_nowhere c.loop-first.invariant (found_none at_start.args.s.now c.loop-first.reader c.run_at-run.ensures c.in-None.is)
+    lands_nowhere c.loop-first.invariant (found_none c.args.s.now c.loop-first.reader c.run_at-run.ensures c.in-None.is)
