@@ -11,18 +11,6 @@ use Rattle.line.specs.Line.{space, given_text}
 use Rattle.line.proofs.Laws.{too_short, written}
 use Rattle.line.proofs.write_line.Goals as goal
 
--- The buffer when what was lent is back has the length it came with.
-abbrev held : tie.After-out2 → List ℕ
-held c =
-    let d = c.before.before.before.before.before.write-given in
-    put_mid (d.result + 1) (length (set d.new.0 d.result space) - (d.result + 1)) (set d.new.0 d.result space) c.before.write-hex.new.0
-
-kept : (c : goal.After-out-2-1) → length (held c) ≡ length c.args.out.now
-kept c =
-    let a = c.args in
-    let d = c.write_given-at in
-    c.out-2-1.given.1 ∙ length-set d.new.out d.result space ∙ ap length d.ensures.1 ∙ length_over (given_text a.given) a.out.now (omega arith)
-
 pub returns-then-out-n : goal.returns-then-out-n
 returns-then-out-n c =
     let a = c.args in
@@ -49,12 +37,6 @@ pub write_hex-requires : goal.write_hex-requires
 write_hex-requires c =
     let d = c.write_given-at in
     rw (lent_tail (d.result + 1) (set d.new.out d.result space)) (simp (length-drop, length-set) (omega arith))
-
-pub bounds-out-size : goal.bounds-out-size
-bounds-out-size c = omega (arith, kept c.before)
-
-pub shape_of-out : goal.shape_of-out
-shape_of-out c = length-set (held c.before) _ _ ∙ kept c.before
 
 pub returns : goal.returns
 returns c =

@@ -6,10 +6,8 @@ use Rattle.calendar.proofs.Moments.{moment_text}
 use borrow.Author.Rules.{rules}
 use Rattle.calendar.proofs.clock.clock_text.Goals as goal
 
-three-letters : (c : goal.After-month_entry-letters) → length c.month_entry-letters.result ≡ 3
-three-letters c = search rules
-
 pub returns : goal.returns
 returns c =
+    let three-letters : length c.month_entry-letters.result ≡ 3 = search rules in
     rw (c.tens.ensures, c.ones.ensures, c.tens-2.ensures, c.ones-2.ensures, c.tens-3.ensures, c.ones-3.ensures, c.tens-4.ensures, c.ones-4.ensures, c.tens-5.ensures, c.ones-5.ensures, c.tens-6.ensures, c.ones-6.ensures)
-    (moment_text c.args.c c.month_entry-letters.result (three-letters c.before.before.before.before.before.before.before.before.before.before.before.before) c.month_entry-letters.ensures)
+    (moment_text c.args.c c.month_entry-letters.result three-letters c.month_entry-letters.ensures)

@@ -7,29 +7,16 @@ use Rattle.frame.proofs.Ground.{within_true, three_at}
 use Rattle.calendar.specs.Clock.{months}
 use Rattle.calendar.proofs.clock.month_entry.Goals as goal
 
--- The test that the code makes is the rule's.
-month : (c : goal.Else-not-within) → (1 ≤ c.args.month) × (c.args.month ≤ 12)
-month c = within_true 1 12 c.args.month (sym c.within.ensures ∙ not-false c.within.result c.if-not-within.false-raw)
-
 pub returns-then-not-within : goal.returns-then-not-within
 returns-then-not-within c = rw (sym c.within.ensures ∙ not-true c.within.result c.if-not-within.true-raw)
 
 pub overflow_sub-i : goal.overflow_sub-i
-overflow_sub-i c = (month c).0
-
--- LEFT
-array-read-t10 : tie.Need-array-read-t10
-array-read-t10 c = omega (arith, month c)
-
--- LEFT
-array-read-t14 : tie.Need-array-read-t14
-array-read-t14 c = omega (arith, month c)
-
--- LEFT
-array-read-t18 : tie.Need-array-read-t18
-array-read-t18 c = omega (arith, month c)
+overflow_sub-i c =
+    let month : (1 ≤ c.args.month) × (c.args.month ≤ 12) = within_true 1 12 c.args.month (sym c.within.ensures ∙ not-false c.within.result c.if-not-within.false-raw) in
+    month.0
 
 pub returns : goal.returns
 returns c =
+    let month : (1 ≤ c.args.month) × (c.args.month ≤ 12) = within_true 1 12 c.args.month (sym c.within.ensures ∙ not-false c.within.result c.if-not-within.false-raw) in
     rw (sym c.within.ensures ∙ not-false c.within.result c.if-not-within.false-raw)
-    (sym (three_at months (3 * (c.args.month - 1)) (omega (arith, month c))))
+    (sym (three_at months (3 * (c.args.month - 1)) (omega (arith, month))))

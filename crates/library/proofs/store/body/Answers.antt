@@ -13,33 +13,38 @@ no_bytes s at = ap (λ (k : ℕ). take k (drop at s)) (nothing at)
     nothing : (at : ℕ) → at - at ≡ 0
     nothing at = omega arith
 
--- What a turn finds.
-here : (c : goal.In-Read-2)
-    → Walked c.args.store.now c.loop-number.at c.in-Read.number c.in-Read.end
-here c = walked _ _ c.record_at-step.ensures c.in-Read.is
-
 pub loop-number-init : goal.loop-number-init
 loop-number-init c = (omega arith, refl)
 
 pub slice_bounds-result-count : goal.slice_bounds-result-count
-slice_bounds-result-count c = let w = here c.before.before in omega (arith, w.ahead)
+slice_bounds-result-count c =
+    let here : Walked c.args.store.now c.loop-number.at c.in-Read.number c.in-Read.end = walked _ _ c.record_at-step.ensures c.in-Read.is in
+    let w = here in omega (arith, w.ahead)
 
 pub slice_bounds-result-start : goal.slice_bounds-result-start
-slice_bounds-result-start c = let w = here c.before.before in omega (arith, w.ahead, w.inside)
+slice_bounds-result-start c =
+    let here : Walked c.args.store.now c.loop-number.at c.in-Read.number c.in-Read.end = walked _ _ c.record_at-step.ensures c.in-Read.is in
+    let w = here in omega (arith, w.ahead, w.inside)
 
 pub slice_bounds-result-end : goal.slice_bounds-result-end
-slice_bounds-result-end c = let w = here c.before.before in omega (arith, w.ahead, w.inside)
+slice_bounds-result-end c =
+    let here : Walked c.args.store.now c.loop-number.at c.in-Read.number c.in-Read.end = walked _ _ c.record_at-step.ensures c.in-Read.is in
+    let w = here in omega (arith, w.ahead, w.inside)
 
 pub returns-then-number-n : goal.returns-then-number-n
 returns-then-number-n c =
-    sym (c.loop-number.invariant.1 ∙ body_here c.args.n (here c.before.before.before) c.if-number-n.true)
+    let here : Walked c.args.store.now c.loop-number.at c.in-Read.number c.in-Read.end = walked _ _ c.record_at-step.ensures c.in-Read.is in
+    sym (c.loop-number.invariant.1 ∙ body_here c.args.n here c.if-number-n.true)
 
 pub loop-number-smaller : goal.loop-number-smaller
-loop-number-smaller c = let w = here c.before.before in omega (arith, w.ahead, w.inside)
+loop-number-smaller c =
+    let here : Walked c.args.store.now c.loop-number.at c.in-Read.number c.in-Read.end = walked _ _ c.record_at-step.ensures c.in-Read.is in
+    let w = here in omega (arith, w.ahead, w.inside)
 
 pub loop-number-preserved : goal.loop-number-preserved
 loop-number-preserved c =
-    let w = here c.before.before in
+    let here : Walked c.args.store.now c.loop-number.at c.in-Read.number c.in-Read.end = walked _ _ c.record_at-step.ensures c.in-Read.is in
+    let w = here in
     (w.inside, c.loop-number.invariant.1 ∙ body_past c.args.n w c.if-number-n.false)
 
 pub returns-in-Ends : goal.returns-in-Ends

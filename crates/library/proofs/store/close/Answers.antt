@@ -60,48 +60,52 @@ closes {s} {n} {now} {at} {to} p d =
     let long : length (written (without n (records s))) ≡ to = ap length all ∙ length-take-le to now (omega (arith, p.size, p.below, p.inside)) in
     record { size = p.size; others = ap (λ (k : ℕ). take k now) long ∙ sym all }
 
--- What a turn finds.
-here : (c : goal.In-Read-2)
-    → Walked c.args.store.now c.loop-number.at c.in-Read.number c.in-Read.end
-here c =
-    walks c.loop-number.invariant c.record_at-step.ensures c.in-Read.is
-
 pub loop-number-init : goal.loop-number-init
 loop-number-init c = starts c.args.store.now c.args.n
 
 pub overflow_sub-end : goal.overflow_sub-end
-overflow_sub-end c = let w = here c.before.before.before in omega (arith, w.ahead)
+overflow_sub-end c =
+    let here : Walked c.args.store.now c.loop-number.at c.in-Read.number c.in-Read.end = walks c.loop-number.invariant c.record_at-step.ensures c.in-Read.is in
+    let w = here in omega (arith, w.ahead)
 
 pub move_down-requires : goal.move_down-requires
 move_down-requires c =
-    let w = here c.before.before.before in
+    let here : Walked c.args.store.now c.loop-number.at c.in-Read.number c.in-Read.end = walks c.loop-number.invariant c.record_at-step.ensures c.in-Read.is in
+    let w = here in
     let p = c.loop-number.invariant in
     (omega (arith, p.below), omega (arith, w.ahead, w.inside, p.size))
 
 pub overflow_sub-to : goal.overflow_sub-to
 overflow_sub-to c =
-    let w = here c.before.before.before.before.before.before in omega (arith, w.ahead)
+    let here : Walked c.args.store.now c.loop-number.at c.in-Read.number c.in-Read.end = walks c.loop-number.invariant c.record_at-step.ensures c.in-Read.is in
+    let w = here in omega (arith, w.ahead)
 
 pub overflow_add-to : goal.overflow_add-to
 overflow_add-to c =
-    let w = here c.before.before.before.before.before.before in
+    let here : Walked c.args.store.now c.loop-number.at c.in-Read.number c.in-Read.end = walks c.loop-number.invariant c.record_at-step.ensures c.in-Read.is in
+    let w = here in
     omega (arith, w.ahead, w.inside, c.loop-number.invariant.below)
 
 pub loop-number-smaller-then-number-n : goal.loop-number-smaller-then-number-n
 loop-number-smaller-then-number-n c =
-    let w = here c.before.before.before.before.before.before in omega (arith, w.ahead, w.inside)
+    let here : Walked c.args.store.now c.loop-number.at c.in-Read.number c.in-Read.end = walks c.loop-number.invariant c.record_at-step.ensures c.in-Read.is in
+    let w = here in omega (arith, w.ahead, w.inside)
 
 pub loop-number-preserved-then-number-n : goal.loop-number-preserved-then-number-n
 loop-number-preserved-then-number-n c =
+    let here : Walked c.args.store.now c.loop-number.at c.in-Read.number c.in-Read.end = walks c.loop-number.invariant c.record_at-step.ensures c.in-Read.is in
     rw c.move_down.ensures
-    (stays c.loop-number.invariant (here c.before.before.before.before.before.before) (λ i. (c.type_inv.store i).fits) c.if-number-n.true)
+    (stays c.loop-number.invariant here (λ i. (c.slice_known-1.given i).fits) c.if-number-n.true)
 
 pub loop-number-smaller : goal.loop-number-smaller
-loop-number-smaller c = let w = here c.before.before in omega (arith, w.ahead, w.inside)
+loop-number-smaller c =
+    let here : Walked c.args.store.now c.loop-number.at c.in-Read.number c.in-Read.end = walks c.loop-number.invariant c.record_at-step.ensures c.in-Read.is in
+    let w = here in omega (arith, w.ahead, w.inside)
 
 pub loop-number-preserved : goal.loop-number-preserved
 loop-number-preserved c =
-    taken_out c.loop-number.invariant (here c.before.before) c.if-number-n.false
+    let here : Walked c.args.store.now c.loop-number.at c.in-Read.number c.in-Read.end = walks c.loop-number.invariant c.record_at-step.ensures c.in-Read.is in
+    taken_out c.loop-number.invariant here c.if-number-n.false
 
 pub shape_of-store-in-Ends : goal.shape_of-store-in-Ends
 shape_of-store-in-Ends c =

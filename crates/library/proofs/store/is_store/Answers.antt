@@ -72,14 +72,6 @@ stops {s} {seen} {at} p d e =
     ∙ ap blank (take_all (length s - at) (drop at s) (simp length-drop (omega arith)) ∙ sym (p.behind ∙ d.left))
     ∙ sym (rw (eq-eqb (length s) store_size p.size, p.numbers ∙ ap (fit_behind p.before) d.none))
 
--- What a turn finds, and that its number is 1 to 79.
-here : (c : goal.In-Read-2)
-    → Walked c.args.store.now c.loop-number.at c.in-Read.number c.in-Read.end
-here c = walked _ _ c.record_at-step.ensures c.in-Read.is
-
-numbered : (c : goal.Else-not-is_number) → is_number c.in-Read.number ≡ true
-numbered c = sym c.is_number.ensures ∙ not-false _ c.if-not-is_number.false-raw
-
 pub returns-then-store-ne-STORE : goal.returns-then-store-ne-STORE
 returns-then-store-ne-STORE c = other_size c.args.store.now c.if-store-ne-STORE.true
 
@@ -88,25 +80,35 @@ loop-number-init c = starts c.args.store.now c.if-store-ne-STORE.false
 
 pub returns-then-not-is_number : goal.returns-then-not-is_number
 returns-then-not-is_number c =
-    no_number c.loop-number.invariant (here c.before.before.before) (sym c.is_number.ensures ∙ not-true _ c.if-not-is_number.true-raw)
+    let here : Walked c.args.store.now c.loop-number.at c.in-Read.number c.in-Read.end = walked _ _ c.record_at-step.ensures c.in-Read.is in
+    no_number c.loop-number.invariant here (sym c.is_number.ensures ∙ not-true _ c.if-not-is_number.true-raw)
 
 pub bounds-seen-number : goal.bounds-seen-number
-bounds-seen-number c = below _ (numbered c)
+bounds-seen-number c =
+    let numbered : is_number c.in-Read.number ≡ true = sym c.is_number.ensures ∙ not-false _ c.if-not-is_number.false-raw in
+    below _ numbered
 
 pub returns-then-seen-number : goal.returns-then-seen-number
 returns-then-seen-number c =
-    seen_before c.loop-number.invariant (here c.before.before.before.before) (numbered c.before) c.if-seen-number.true
+    let here : Walked c.args.store.now c.loop-number.at c.in-Read.number c.in-Read.end = walked _ _ c.record_at-step.ensures c.in-Read.is in
+    let numbered : is_number c.in-Read.number ≡ true = sym c.is_number.ensures ∙ not-false _ c.if-not-is_number.false-raw in
+    seen_before c.loop-number.invariant here numbered c.if-seen-number.true
 
 pub bounds-seen-number-in-Read : goal.bounds-seen-number-in-Read
-bounds-seen-number-in-Read c = below _ (numbered c.before)
+bounds-seen-number-in-Read c =
+    let numbered : is_number c.in-Read.number ≡ true = sym c.is_number.ensures ∙ not-false _ c.if-not-is_number.false-raw in
+    below _ numbered
 
 pub loop-number-smaller : goal.loop-number-smaller
 loop-number-smaller c =
-    let w = here c.before.before.before.before in omega (arith, w.ahead, w.inside)
+    let here : Walked c.args.store.now c.loop-number.at c.in-Read.number c.in-Read.end = walked _ _ c.record_at-step.ensures c.in-Read.is in
+    let w = here in omega (arith, w.ahead, w.inside)
 
 pub loop-number-preserved : goal.loop-number-preserved
 loop-number-preserved c =
-    goes_on c.loop-number.invariant (here c.before.before.before.before) (numbered c.before) c.if-seen-number.false
+    let here : Walked c.args.store.now c.loop-number.at c.in-Read.number c.in-Read.end = walked _ _ c.record_at-step.ensures c.in-Read.is in
+    let numbered : is_number c.in-Read.number ≡ true = sym c.is_number.ensures ∙ not-false _ c.if-not-is_number.false-raw in
+    goes_on c.loop-number.invariant here numbered c.if-seen-number.false
 
 pub slice_bounds-blank-count : goal.slice_bounds-blank-count
 slice_bounds-blank-count c = c.loop-number.invariant.inside

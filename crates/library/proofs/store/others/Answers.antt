@@ -21,35 +21,40 @@ left_past {s} {at} {m} {end} n w e =
 left_none : {s : List ℕ} {at : ℕ} (n : ℕ) → Ended s at → left n s at ≡ 0
 left_none n d = ap (λ (rs : List Record). length (written (without n rs))) d.none
 
--- What a turn finds.
-here : (c : goal.In-Read-2)
-    → Walked c.args.store.now c.loop-number.at c.in-Read.number c.in-Read.end
-here c = walked _ _ c.record_at-step.ensures c.in-Read.is
-
 pub loop-number-init : goal.loop-number-init
 loop-number-init c = (omega arith, omega arith, omega arith)
 
 pub overflow_sub-size : goal.overflow_sub-size
-overflow_sub-size c = let w = here c.before.before in omega (arith, w.ahead)
+overflow_sub-size c =
+    let here : Walked c.args.store.now c.loop-number.at c.in-Read.number c.in-Read.end = walked _ _ c.record_at-step.ensures c.in-Read.is in
+    let w = here in omega (arith, w.ahead)
 
 pub overflow_add-size : goal.overflow_add-size
-overflow_add-size c = let w = here c.before.before in omega (arith, w.ahead, w.inside)
+overflow_add-size c =
+    let here : Walked c.args.store.now c.loop-number.at c.in-Read.number c.in-Read.end = walked _ _ c.record_at-step.ensures c.in-Read.is in
+    let w = here in omega (arith, w.ahead, w.inside)
 
 pub loop-number-smaller-then-number-n : goal.loop-number-smaller-then-number-n
-loop-number-smaller-then-number-n c = let w = here c.before.before in omega (arith, w.ahead, w.inside)
+loop-number-smaller-then-number-n c =
+    let here : Walked c.args.store.now c.loop-number.at c.in-Read.number c.in-Read.end = walked _ _ c.record_at-step.ensures c.in-Read.is in
+    let w = here in omega (arith, w.ahead, w.inside)
 
 pub loop-number-preserved-then-number-n : goal.loop-number-preserved-then-number-n
 loop-number-preserved-then-number-n c =
-    let w = here c.before.before in
+    let here : Walked c.args.store.now c.loop-number.at c.in-Read.number c.in-Read.end = walked _ _ c.record_at-step.ensures c.in-Read.is in
+    let w = here in
     let more = left_past c.args.n w c.if-number-n.true in
     (omega (arith, w.ahead), w.inside, omega (arith, c.loop-number.invariant.2))
 
 pub loop-number-smaller : goal.loop-number-smaller
-loop-number-smaller c = let w = here c.before.before in omega (arith, w.ahead, w.inside)
+loop-number-smaller c =
+    let here : Walked c.args.store.now c.loop-number.at c.in-Read.number c.in-Read.end = walked _ _ c.record_at-step.ensures c.in-Read.is in
+    let w = here in omega (arith, w.ahead, w.inside)
 
 pub loop-number-preserved : goal.loop-number-preserved
 loop-number-preserved c =
-    let w = here c.before.before in
+    let here : Walked c.args.store.now c.loop-number.at c.in-Read.number c.in-Read.end = walked _ _ c.record_at-step.ensures c.in-Read.is in
+    let w = here in
     let more = left_here c.args.n w c.if-number-n.false in
     (omega (arith, w.ahead), w.inside, omega (arith, c.loop-number.invariant.2))
 

@@ -79,32 +79,6 @@ module _ (s : List ℕ) (at n : ℕ) (body : List ℕ) (full : length s ≡ stor
       ∙ length-append (take at s) (r ++ replicate k 0)
       ∙ omega (arith, length-take-le at s (omega arith), length-append body (replicate k 0), length-replicate {A = ℕ} k 0)
 
-laid : (c : goal.After-slice_known-2-1)
-    → let a = c.args in
-    behind a.store.now a.at a.n a.body.now c.lay.new.out
-    ≡ over (fore a.store.now a.at a.n (length a.body.now) ++ a.body.now) a.store.now
-laid c =
-    let a = c.args in
-    let lay = c.lay in
-    body_laid a.store.now a.at a.n a.body.now c.requires.0 c.requires.1 lay.new.out lay.result lay.ensures
-
-inside : (c : goal.After-slice_known-2-1)
-    → let a = c.args in
-    length (behind a.store.now a.at a.n a.body.now c.lay.new.out) ≡ store_size
-inside c =
-    let a = c.args in
-    laid_length a.store.now a.at a.n a.body.now c.requires.0 c.requires.1 _ (laid c)
-
-puts : (c : goal.After-slice_known-3-1)
-    → let a = c.args in
-    let from = a.at + head_size + length a.body.now in
-    let xs = behind a.store.now a.at a.n a.body.now c.lay.new.out in
-    PutsLast a.store.now a.at a.n a.body.now (put_mid from (length xs - from) xs c.clear.new.bytes)
-puts c =
-    let a = c.args in
-    cleared a.store.now a.at a.n a.body.now c.requires.0 c.requires.1
-    (behind a.store.now a.at a.n a.body.now c.lay.new.out) c.clear.new.bytes (laid c.before.before.before.before) c.clear.ensures
-
 pub bounds-store-at-2 : goal.bounds-store-at-2
 bounds-store-at-2 c = simp length-set (omega arith)
 
@@ -124,14 +98,55 @@ pub slice_bounds-lay-start : goal.slice_bounds-lay-start
 slice_bounds-lay-start c = simp length-set (omega arith)
 
 pub slice_bounds-clear-count : goal.slice_bounds-clear-count
-slice_bounds-clear-count c = omega (arith, inside c)
+slice_bounds-clear-count c =
+    let laid : let a = c.args in
+    behind a.store.now a.at a.n a.body.now c.lay.new.out
+    ≡ over (fore a.store.now a.at a.n (length a.body.now) ++ a.body.now) a.store.now = let a = c.args in
+    let lay = c.lay in
+    body_laid a.store.now a.at a.n a.body.now c.requires.0 c.requires.1 lay.new.out lay.result lay.ensures in
+    let inside : let a = c.args in
+    length (behind a.store.now a.at a.n a.body.now c.lay.new.out) ≡ store_size = let a = c.args in
+    laid_length a.store.now a.at a.n a.body.now c.requires.0 c.requires.1 _ laid in
+    omega (arith, inside)
 
 pub slice_bounds-clear-start : goal.slice_bounds-clear-start
-slice_bounds-clear-start c = omega (arith, inside c)
+slice_bounds-clear-start c =
+    let laid : let a = c.args in
+    behind a.store.now a.at a.n a.body.now c.lay.new.out
+    ≡ over (fore a.store.now a.at a.n (length a.body.now) ++ a.body.now) a.store.now = let a = c.args in
+    let lay = c.lay in
+    body_laid a.store.now a.at a.n a.body.now c.requires.0 c.requires.1 lay.new.out lay.result lay.ensures in
+    let inside : let a = c.args in
+    length (behind a.store.now a.at a.n a.body.now c.lay.new.out) ≡ store_size = let a = c.args in
+    laid_length a.store.now a.at a.n a.body.now c.requires.0 c.requires.1 _ laid in
+    omega (arith, inside)
 
 pub shape_of-store : goal.shape_of-store
 shape_of-store c =
-    puts_length c.args.store.now c.args.at c.args.n c.args.body.now c.requires.0 c.requires.1 _ (puts c)
+    let laid : let a = c.args in
+    behind a.store.now a.at a.n a.body.now c.lay.new.out
+    ≡ over (fore a.store.now a.at a.n (length a.body.now) ++ a.body.now) a.store.now = let a = c.args in
+    let lay = c.lay in
+    body_laid a.store.now a.at a.n a.body.now c.requires.0 c.requires.1 lay.new.out lay.result lay.ensures in
+    let puts : let a = c.args in
+    let from = a.at + head_size + length a.body.now in
+    let xs = behind a.store.now a.at a.n a.body.now c.lay.new.out in
+    PutsLast a.store.now a.at a.n a.body.now (put_mid from (length xs - from) xs c.clear.new.bytes) = let a = c.args in
+    cleared a.store.now a.at a.n a.body.now c.requires.0 c.requires.1
+    (behind a.store.now a.at a.n a.body.now c.lay.new.out) c.clear.new.bytes laid c.clear.ensures in
+    puts_length c.args.store.now c.args.at c.args.n c.args.body.now c.requires.0 c.requires.1 _ puts
 
 pub returns : goal.returns
-returns c = puts c
+returns c =
+    let laid : let a = c.args in
+    behind a.store.now a.at a.n a.body.now c.lay.new.out
+    ≡ over (fore a.store.now a.at a.n (length a.body.now) ++ a.body.now) a.store.now = let a = c.args in
+    let lay = c.lay in
+    body_laid a.store.now a.at a.n a.body.now c.requires.0 c.requires.1 lay.new.out lay.result lay.ensures in
+    let puts : let a = c.args in
+    let from = a.at + head_size + length a.body.now in
+    let xs = behind a.store.now a.at a.n a.body.now c.lay.new.out in
+    PutsLast a.store.now a.at a.n a.body.now (put_mid from (length xs - from) xs c.clear.new.bytes) = let a = c.args in
+    cleared a.store.now a.at a.n a.body.now c.requires.0 c.requires.1
+    (behind a.store.now a.at a.n a.body.now c.lay.new.out) c.clear.new.bytes laid c.clear.ensures in
+    puts
