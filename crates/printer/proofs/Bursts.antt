@@ -9,7 +9,7 @@ use borrow.Author.Tests.{ne_eqb, eqb-true, eqb-false}
 use lib.Dec.{eqb}
 use lib.ListN.{length, get_or, set, take, drop, length-append, length-drop, length-set}
 use lib.Seq.{append_snoc, drop-append-le, drop-append_seam, drop-length, length-take-le, take-append-le}
-use Rattle.frame.specs.Ground.{all, pick, plain, within}
+use Rattle.frame.specs.Ground.{pick, plain, within}
 use Rattle.frame.specs.declared.given.Given.{Given}
 use Rattle.frame.specs.Receive.{consumed, number, received}
 use Rattle.frame.specs.Holding.{buffer_behind, holding_behind, holding_size, is_held, is_holding}

@@ -17,7 +17,7 @@ use Rattle.calendar.specs.DateChange.{is_time}
 use Rattle.printer.specs.Number.{is_digit, all_digits, value_from, number_from, number_of, in_bytes}
 use Rattle.printer.specs.Counter.{Counter, control, all_digits_in, initial, final, step, lot, good_settings, grown, next_value, next_batch, is_set, moved, counted, valid_counter, counter_size, counter_of, counter_bytes}
 use Rattle.printer.specs.Jet.{Jet, has_jet, good_parameters, valid_jet, counted_jet, general_place, counter_place, jet_size, jet_of, jet_bytes}
-use Rattle.printer.specs.State.{state_size, jets_place, empty_jet, with_jets, jets_of, printer_of, bytes_of, valid, valid_state}
+use Rattle.printer.specs.State.{state_size, jets_place, empty_jet, with_jets, jets_of, printer_of, bytes_of, valid_state}
 use Rattle.printer.specs.BytesLaws.{AllBytes, SizedCounter, SizedJet, SizedJets, SizedMoment, SizedTime, AllOf, StateBack, SameBytes, PrinterBack, BytesFull, ValidBytes, SizedOf, SizedFresh, SizedWithJet, SizedClock, SizedDateChange, SizedEach, SizedMessage, SizedParameters, SizedPrint}
 use Rattle.calendar.specs.declared.clock.Clock.{Clock}
 use Rattle.calendar.specs.declared.date_change.TimeOfDay.{TimeOfDay}

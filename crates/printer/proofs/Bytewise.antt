@@ -1,14 +1,14 @@
 -- What comes of a byte: it is left untaken where a test fails, and else what is held goes on by the number that the first receiver gives.
 use Prim.Native.Nat.{ℕ, ◌+◌, ◌<◌, ◌≤◌}
 use mathlib.Core.Bool.{Bool, true, false, false≢true}
-use mathlib.Core.List.{List, [], ◌∷◌, ◌++◌}
-use mathlib.Core.Logic.{◌⊎◌, inl, inr, ⊎_elim}
+use mathlib.Core.List.{List}
+use mathlib.Core.Logic.{◌⊎◌, inl, inr}
 use mathlib.Core.Path.{◌≡◌, refl, sym, ◌∙◌, ap, subst}
 use native.Mathlib.Omega.{arith}
 use borrow.Author.Tests.{ne_eqb, le-leb, lt-leb}
 use lib.Dec.{eqb}
 use lib.ListN.{length, set, take, drop}
-use Rattle.frame.specs.Ground.{all, given, plain, within}
+use Rattle.frame.specs.Ground.{all, plain, within}
 use Rattle.frame.specs.declared.given.Given.{Given}
 use Rattle.frame.specs.Receive.{received, number}
 use Rattle.frame.specs.Holding.{buffer_behind, holding_behind, is_holding}
@@ -16,14 +16,13 @@ use Rattle.frame.specs.declared.holding.Holding.{Holding}
 use Rattle.frame.specs.declared.holding.Holding.TheVariants.{Held, Dropping}
 use Rattle.frame.specs.declared.receive.Received.{Received}
 use Rattle.frame.specs.declared.receive.Received.TheVariants.{Partial, Refused, Misfit, Enquiry, Update, Frame}
-use Rattle.frame.proofs.Heard.{Sound, sound}
 use Rattle.frame.proofs.HoldingLaws.{Holds, behind_front, holds_tell, never_silent}
 use Rattle.printer.specs.State.{Printer, printer_of}
 use Rattle.printer.specs.Order.{Order}
 use Rattle.printer.specs.Answer.{Silent}
 use Rattle.printer.specs.Change.{update_fields}
 use Rattle.printer.specs.Receive.{Fulfils, Outcome, enquire, handled, obeyed, order, silent}
-use Rattle.printer.specs.Single.{HandedByte, Takes, TakesByte, Untaken, byte_handled, byte_tests, counted, handed_byte, joined_by, single, taken}
+use Rattle.printer.specs.Single.{Takes, TakesByte, Untaken, byte_handled, byte_tests, counted, handed_byte, joined_by, single, taken}
 use Rattle.printer.specs.OrderLaws.{numbered}
 use Rattle.printer.specs.declared.answer.Answered.{Answered}
 use Rattle.printer.specs.declared.single.Taken.{Taken}

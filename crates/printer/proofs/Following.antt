@@ -28,14 +28,13 @@ use Rattle.printer.specs.Print.{print, counted_jets}
 use Rattle.printer.specs.PrintLaws.{SameButCount}
 use Rattle.printer.specs.Messages.{body_content, select_message, selected_body, store_message, valid_store}
 use Rattle.printer.specs.Receive.{printer_order, order}
-use Rattle.printer.specs.Demands.{after, Brought, nothing, whole, brought_by, newer, Held}
+use Rattle.printer.specs.Demands.{Brought, nothing, whole, brought_by, newer, Held}
 use Rattle.printer.proofs.Valid.{on_row}
 use Rattle.printer.proofs.StateLaws.{message_of}
 use Rattle.printer.proofs.PrintLaws.{counted_keeps, content_good}
 use Rattle.printer.proofs.OrderLaws.{printer_order_case, order_case, message_tells, parameters_tell, both_tell, edit_tells, select_tells, update_tells}
 use Rattle.printer.proofs.Bodies.{content_there}
 use Rattle.printer.proofs.Editing.{put_jet, head_each}
-use Rattle.printer.proofs.Written.{written}
 use Rattle.printer.proofs.Leading.{Leads, stays, orders, updates, sets, changes}
 
 -- ---- A message beside the last whole one.

@@ -11,7 +11,7 @@ use lib.Seq.{take_at, drop-append-add}
 use Rattle.frame.specs.Ground.{checked, joined, Test}
 use Rattle.frame.specs.declared.given.Given.{Given}
 use Rattle.frame.specs.Build.{frame}
-use Rattle.frame.specs.Receive.{received, consumed}
+use Rattle.frame.specs.Receive.{received}
 use Rattle.frame.specs.declared.receive.Received.{Received}
 use Rattle.frame.specs.declared.receive.Received.TheVariants.{Partial, Refused, Misfit, Enquiry, Update, Frame}
 use Rattle.frame.proofs.Ground.{unless_case, unless_tells}

@@ -7,7 +7,6 @@ use mathlib.Core.Path.{◌≡◌, refl, sym, subst, ap, ◌∙◌}
 use lib.ListN.{length}
 use Rattle.frame.specs.declared.given.Given.{Given}
 use Rattle.frame.proofs.Ground.{checked_all}
-use Rattle.frame.proofs.Heard.{sound}
 use Rattle.content.specs.Content.{is_content}
 use Rattle.content.specs.Grammar.{Tree, Line, block_outline, block_shape, outline, shape}
 use Rattle.content.specs.Tree.{tree_of}

@@ -10,7 +10,7 @@ use Rattle.calendar.proofs.ClockLaws.{tick_real}
 use Rattle.printer.specs.State.{Printer, with_clock, with_date_change, printer_of, bytes_of, valid_state}
 use Rattle.printer.specs.Order.{left}
 use Rattle.printer.specs.Call.{set_clock, set_date_change, tick_clock}
-use Rattle.printer.specs.BytesLaws.{AllBytes, Sized}
+use Rattle.printer.specs.BytesLaws.{Sized}
 use Rattle.printer.specs.Demands.{SetsAlone, CallsSet}
 use Rattle.calendar.specs.declared.clock.Clock.{Clock}
 use Rattle.calendar.specs.declared.date_change.TimeOfDay.{TimeOfDay}

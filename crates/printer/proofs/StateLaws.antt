@@ -17,7 +17,6 @@ use Rattle.printer.specs.Jet.{Jet, has_jet, valid_message, valid_jet, good_param
 use Rattle.printer.specs.State.{Printer, empty_jet, with_jet, with_clock, with_date_change, valid_jets, valid, fresh_printer}
 use Rattle.printer.specs.StateLaws.{FirstValid, FreshValid, ClockValid, DateChangeValid, TickValid, JetAtWithJet, JetAtOther, WithJetValid, MessageOf, MessageThere, MessageStays, ParametersStay}
 use Rattle.calendar.specs.declared.clock.Clock.{Clock}
-use Rattle.calendar.specs.declared.date_change.TimeOfDay.{TimeOfDay}
 use Rattle.printer.proofs.Valid.{valid_model, valid_clock, valid_time, valid_row, empty_valid, on_row, content_short}
 use Rattle.printer.proofs.Rows.{every_set, every_replicate}
 use Rattle.calendar.proofs.ClockLaws.{tick_real}

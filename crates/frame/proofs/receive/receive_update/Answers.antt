@@ -10,7 +10,6 @@ use Rattle.frame.specs.Receive.{updated, text_space}
 use Rattle.frame.specs.declared.receive.Received.TheVariants.{Partial, Refused, Update}
 use Rattle.frame.proofs.Ground.{text_length}
 use Rattle.frame.proofs.receive.receive_update.Goals as goal
-use Rattle.frame.proofs.receive.receive_update.Goals.{then-n-lt-TEXT+else-n-s, else-n-lt-TEXT}
 
 closed : (s : List ℕ) (n : ℕ) → n < (longest_update + 1) → n + 1 < length s → Update n (n + update_marks) ≡ updated s n
 unfolding updated
@@ -36,7 +35,7 @@ returns-then-s-lt-WHOLE c =
     let u = c.update_size-n in
     -- By either way to the last test, no 03h was found.
     let t = text_length a.s.now in
-    let none : length (text_space a.s.now) ≤ u.result = elim c.if-n-lt-TEXT.branch [ then-n-lt-TEXT+else-n-s w ↦ omega arith | else-n-lt-TEXT w ↦ omega arith ] in
+    let none : length (text_space a.s.now) ≤ u.result = omega arith in
     not_yet a.s.now u.result none c.if-s-lt-WHOLE.true ∙ ap (updated a.s.now) u.ensures
 
 pub returns : goal.returns
@@ -44,5 +43,5 @@ returns c =
     let a = c.args in
     let u = c.update_size-n in
     let t = text_length a.s.now in
-    let none : length (text_space a.s.now) ≤ u.result = elim c.if-n-lt-TEXT.branch [ then-n-lt-TEXT+else-n-s w ↦ omega arith | else-n-lt-TEXT w ↦ omega arith ] in
+    let none : length (text_space a.s.now) ≤ u.result = omega arith in
     never a.s.now u.result none c.if-s-lt-WHOLE.false ∙ ap (updated a.s.now) u.ensures

@@ -17,25 +17,22 @@ at_least Parameters h = omega arith
 at_least Both h = omega arith
 at_least Characters h = omega arith
 
-jet : (c : goal.Else-at-eq0) → let a = c.args in Stands a.state.now (jet_number a.d.now) «left»c.before.IsPlace-in.result
-jet c =
-    stands «left»c.before.IsPlace-in.ensures c.if-at-eq0.false (valid_size _ c.requires.0) c.type_inv.state
-
 pub place_in-at-requires : goal.place_in-at-requires
 place_in-at-requires c =
     (valid_size _ c.requires.0, at_least c.args.what c.requires.1)
 
 pub returns-then-at-eq0 : goal.returns-then-at-eq0
-returns-then-at-eq0 c = refused c.plain.ensures (here (not_named «left»c.before.before.IsPlace-in.ensures c.if-at-eq0.true))
+returns-then-at-eq0 c = refused c.plain.ensures (here (not_named c.place_in-at.ensures c.if-at-eq0.true))
 
 pub slice_bounds-change_jet-end : goal.slice_bounds-change_jet-end
-slice_bounds-change_jet-end c = part_inside (jet c)
+slice_bounds-change_jet-end c = part_inside (stands c.place_in-at.ensures c.if-at-eq0.false (valid_size _ c.requires.0) c.slice_known-1.given)
 
 pub change_jet-requires : goal.change_jet-requires
 change_jet-requires c =
-    let j = jet c.before in (part_size j, part_short j c.requires.0, c.requires.1)
+    let j = stands c.place_in-at.ensures c.if-at-eq0.false (valid_size _ c.requires.0) c.slice_known-1.given in (part_size j, part_short j c.requires.0, c.requires.1)
 
 pub returns : goal.returns
 returns c =
-    let j = jet c.before.before.before.before in
-    part_obeys c.args.state.now c.args.d.now j (named «left»at-place-in.IsPlace-in.ensures c.if-at-eq0.false) (rw (part_jet j) at c.change_jet.ensures)
+    let j : Stands c.args.state.now (jet_number c.args.d.now) c.place_in-at.result =
+    stands c.place_in-at.ensures c.if-at-eq0.false (valid_size _ c.requires.0) c.slice_known-1.given in
+    part_obeys c.args.state.now c.args.d.now j (named c.place_in-at.ensures c.if-at-eq0.false) (rw (part_jet j) at c.change_jet.ensures)

@@ -15,13 +15,12 @@ returns-then-tested-ne0 c =
     jet_refused h.1 (past (granted c.good_parameters.ensures c.if-not-good_parameters.false-raw) (here h.0))
 
 pub put_both-requires : goal.put_both-requires
-put_both-requires c =
-    (
-      search rules,
-      search rules,
-      granted c.good_parameters.ensures c.if-not-good_parameters.false-raw,
-      rw lent_tail (content_short _ (test_accepts (rw lent_tail at c.test-tested.ensures) c.if-tested-ne0.false).0),
-    )
+put_both-requires c = (
+  search rules,
+  search rules,
+  granted c.good_parameters.ensures c.if-not-good_parameters.false-raw,
+  rw lent_tail (content_short _ (test_accepts (rw lent_tail at c.test-tested.ensures) c.if-tested-ne0.false).0),
+)
 
 pub returns : goal.returns
 returns c =

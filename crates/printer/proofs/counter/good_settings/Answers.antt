@@ -1,13 +1,9 @@
 -- `printer::counter::good_settings` meets its contract. Its tests are those of the rule, in its order, and each callee tells what the rule tests.
-use mathlib.Core.Bool.{true}
-use mathlib.Core.Path.{◌≡◌, sym, ◌∙◌}
-use borrow.Author.Tests.{not-true, not-false}
+use borrow.Author.Tests.{not-true}
 use Rattle.frame.proofs.Ground.{tests}
-use Rattle.printer.specs.Counter.{all_digits_in, good_settings}
+use Rattle.printer.specs.Counter.{good_settings}
+use Rattle.printer.proofs.Orders.{granted}
 use Rattle.printer.proofs.counter.good_settings.Goals as goal
-
-digits-held : (c : goal.Else-not-all_digits_in) → all_digits_in c.args.q.now ≡ true
-digits-held c = sym c.all_digits_in.ensures ∙ not-false c.all_digits_in.result c.if-not-all_digits_in.false-raw
 
 pub returns-then-q : goal.returns-then-q
 unfolding good_settings
@@ -19,26 +15,26 @@ returns-then-not-all_digits_in c = rw (← c.all_digits_in.ensures, not-true c.a
 
 pub final_of-requires : goal.final_of-requires
 final_of-requires c =
-    (c.requires, digits-held c)
+    (c.requires, granted c.all_digits_in.ensures c.if-not-all_digits_in.false-raw)
 
 pub initial-requires : goal.initial-requires
 initial-requires c =
-    (c.requires, digits-held c.before)
+    (c.requires, granted c.all_digits_in.ensures c.if-not-all_digits_in.false-raw)
 
 pub returns-then-final_of-initial : goal.returns-then-final_of-initial
 unfolding good_settings
-returns-then-final_of-initial c = rw (digits-held c.before.before.before, ← c.final_of.ensures.0, ← c.initial.ensures.0) (search tests)
+returns-then-final_of-initial c = rw (granted c.all_digits_in.ensures c.if-not-all_digits_in.false-raw, ← c.final_of.ensures.0, ← c.initial.ensures.0) (search tests)
 
 pub step-requires : goal.step-requires
 step-requires c =
-    (c.requires, digits-held c.before.before.before)
+    (c.requires, granted c.all_digits_in.ensures c.if-not-all_digits_in.false-raw)
 
 pub returns-then-step-lt1 : goal.returns-then-step-lt1
 unfolding good_settings
 returns-then-step-lt1 c =
-    rw (digits-held c.before.before.before.before.before, ← c.final_of.ensures.0, ← c.initial.ensures.0, ← c.step.ensures.0) (search tests)
+    rw (granted c.all_digits_in.ensures c.if-not-all_digits_in.false-raw, ← c.final_of.ensures.0, ← c.initial.ensures.0, ← c.step.ensures.0) (search tests)
 
 pub returns : goal.returns
 unfolding good_settings
 returns c =
-    rw (digits-held c.before.before.before.before.before.before, ← c.final_of.ensures.0, ← c.initial.ensures.0, ← c.step.ensures.0, ← c.lot.ensures.0) (search tests)
+    rw (granted c.all_digits_in.ensures c.if-not-all_digits_in.false-raw, ← c.final_of.ensures.0, ← c.initial.ensures.0, ← c.step.ensures.0, ← c.lot.ensures.0) (search tests)

@@ -2,20 +2,10 @@
 use mathlib.Core.Path.{◌≡◌, sym, ◌∙◌, ap}
 use native.Mathlib.Omega.{arith}
 use lib.ListN.{length, length-set}
-use Rattle.frame.specs.Ground.{over}
 use Rattle.frame.proofs.Ground.{length_over}
 use Rattle.printer.specs.Counter.{counter_bytes, set_to}
 use Rattle.printer.proofs.Counters.{good_tells, length_counter, set_bytes, settings_laid}
 use Rattle.printer.proofs.counter.set_to.Goals as goal
-
-laid : (c : goal.After-lay) → let a = c.args in c.lay.new.out ≡ over a.q.now a.c.now
-laid c =
-    settings_laid c.args.c.now c.requires.0 c.args.q.now c.requires.1 c.lay.ensures
-
-written : (c : goal.After-put_count) → c.put_count.new.c ≡ counter_bytes (set_to c.args.q.now)
-written c =
-    c.put_count.ensures
-    ∙ set_bytes c.args.c.now c.requires.0 c.args.q.now c.requires.1 (laid c.before.before.before.before.before) c.initial.ensures.0
 
 pub initial-requires : goal.initial-requires
 initial-requires c =
@@ -23,11 +13,16 @@ initial-requires c =
 
 pub put_count-requires : goal.put_count-requires
 put_count-requires c =
-    length-set c.lay.new.out 26 1 ∙ ap length (laid c.before.before.before.before) ∙ length_over c.args.q.now c.args.c.now (omega arith) ∙ c.requires.0
+    length-set c.lay.new.out 26 1 ∙ ap length (settings_laid c.args.c.now c.requires.0 c.args.q.now c.requires.1 c.lay.ensures) ∙ length_over c.args.q.now c.args.c.now (omega arith) ∙ c.requires.0
 
 pub shape_of-c : goal.shape_of-c
 shape_of-c c =
-    ap length (written c.before.before) ∙ length_counter (set_to c.args.q.now) c.requires.1 ∙ sym c.requires.0
+    let laid = settings_laid c.args.c.now c.requires.0 c.args.q.now c.requires.1 c.lay.ensures in
+    let written : c.put_count.new.c ≡ counter_bytes (set_to c.args.q.now) =
+    c.put_count.ensures ∙ set_bytes c.args.c.now c.requires.0 c.args.q.now c.requires.1 laid c.initial.ensures.0 in
+    ap length written ∙ length_counter (set_to c.args.q.now) c.requires.1 ∙ sym c.requires.0
 
 pub returns : goal.returns
-returns c = written c.before.before
+returns c =
+    let laid = settings_laid c.args.c.now c.requires.0 c.args.q.now c.requires.1 c.lay.ensures in
+    c.put_count.ensures ∙ set_bytes c.args.c.now c.requires.0 c.args.q.now c.requires.1 laid c.initial.ensures.0

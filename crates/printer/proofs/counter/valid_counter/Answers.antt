@@ -1,18 +1,12 @@
 -- `printer::counter::valid_counter` meets its contract. Its tests are those of the rule, in its order, over the parts that the 34 bytes have.
-use mathlib.Core.Bool.{true}
-use mathlib.Core.Path.{◌≡◌, sym, ◌∙◌}
-use borrow.Author.Tests.{not-true, not-false}
+use mathlib.Core.Path.{sym}
+use borrow.Author.Tests.{not-true}
 use lib.ListN.{take}
 use Rattle.frame.proofs.Ground.{tests}
-use Rattle.printer.specs.Counter.{counter_of, good_settings, is_set, valid_counter}
+use Rattle.printer.specs.Counter.{counter_of, valid_counter}
 use Rattle.printer.proofs.Counters.{good_tells, settings_long}
+use Rattle.printer.proofs.Orders.{granted}
 use Rattle.printer.proofs.counter.valid_counter.Goals as goal
-
-set-held : (c : goal.Else-not-is_set) → is_set (counter_of c.args.c.now) ≡ true
-set-held c = sym c.is_set.ensures ∙ not-false c.is_set.result c.if-not-is_set.false-raw
-
-good-held : (c : goal.Else-not-good_settings) → good_settings (take 26 c.args.c.now) ≡ true
-good-held c = sym c.good_settings.ensures ∙ not-false c.good_settings.result c.if-not-good_settings.false-raw
 
 pub returns-then-c-gt1 : goal.returns-then-c-gt1
 unfolding valid_counter counter_of
@@ -32,14 +26,14 @@ good_settings-requires c =
 
 pub returns-then-not-good_settings : goal.returns-then-not-good_settings
 unfolding valid_counter counter_of
-returns-then-not-good_settings c = rw (set-held c.before.before.before, ← c.good_settings.ensures, not-true c.good_settings.result c.if-not-good_settings.true-raw) (search tests)
+returns-then-not-good_settings c = rw (granted c.is_set.ensures c.if-not-is_set.false-raw, ← c.good_settings.ensures, not-true c.good_settings.result c.if-not-good_settings.true-raw) (search tests)
 
 pub counts-requires : goal.counts-requires
 counts-requires c =
     let q = c.args.c.now in
-    (settings_long q c.requires, (good_tells (take 26 q) (good-held c.before.before)).digits)
+    (settings_long q c.requires, (good_tells (take 26 q) (granted c.good_settings.ensures c.if-not-good_settings.false-raw)).digits)
 
 pub returns : goal.returns
 unfolding valid_counter counter_of
 returns c =
-    rw (set-held c.before.before.before.before.before.before, good-held c.before.before.before, ← c.four_bytes.ensures, ← c.three_bytes.ensures.0, ← c.counts.ensures) (search tests)
+    rw (granted c.is_set.ensures c.if-not-is_set.false-raw, granted c.good_settings.ensures c.if-not-good_settings.false-raw, ← c.four_bytes.ensures, ← c.three_bytes.ensures.0, ← c.counts.ensures) (search tests)

@@ -1,23 +1,10 @@
-use Prim.Native.Nat.{ℕ, ◌+◌, ◌-◌, ◌<◌}
-use mathlib.Core.Bool.{true}
+use Prim.Native.Nat.{ℕ, ◌+◌, ◌-◌}
 use mathlib.Core.Path.{◌≡◌, refl, sym, ◌∙◌, ap, ap₂}
 use native.Mathlib.Omega.{arith}
 use lib.ListN.{get_or, take, drop}
-use Rattle.printer.specs.Number.{all_digits, is_digit, value_from}
+use Rattle.printer.specs.Number.{all_digits, value_from}
 use Rattle.printer.proofs.Numbers.{digit_next, is_digit_true, value_grows, value_nine, value_on, value_small}
 use Rattle.printer.proofs.counter.value_at.Goals as goal
-
-digit : (c : goal.In-loop-i)
-    → let a = c.args in
-    let l = c.loop-i in
-    (is_digit (get_or a.q.now (a.from + l.i) 0) ≡ true) × (all_digits (take (a.count - (l.i + 1)) (drop (a.from + (l.i + 1)) a.q.now)) ≡ true)
-digit c =
-    let a = c.args in
-    let l = c.loop-i in
-    digit_next a.q.now a.from l.i a.count c.loop-i-test.true (omega arith) l.invariant.2
-
-small : (c : goal.In-loop-i) → c.loop-i.n < 100_000_000
-small c = value_small c.loop-i.n c.loop-i.i (omega arith) c.loop-i.invariant.1
 
 pub loop-i-init : goal.loop-i-init
 loop-i-init c =
@@ -31,7 +18,7 @@ loop-i-init c =
     )
 
 pub overflow_mul-n : goal.overflow_mul-n
-overflow_mul-n c = omega (arith, small c)
+overflow_mul-n c = omega (arith, value_small c.loop-i.n c.loop-i.i (omega arith) c.loop-i.invariant.1)
 
 pub overflow_add-n : goal.overflow_add-n
 overflow_add-n c = omega arith
@@ -40,13 +27,20 @@ pub bounds-q-from : goal.bounds-q-from
 bounds-q-from c = omega arith
 
 pub overflow_sub-n : goal.overflow_sub-n
-overflow_sub-n c = (is_digit_true _ (digit c.before).0).0
+overflow_sub-n c =
+    let a = c.args in
+    let l = c.loop-i in
+    (is_digit_true _ (digit_next a.q.now a.from l.i a.count c.loop-i-test.true (omega arith) l.invariant.2).0).0
 
 pub overflow_cast-n : goal.overflow_cast-n
 overflow_cast-n c = omega (arith, (c.type_inv.q (c.args.from + c.loop-i.i)).fits)
 
 pub overflow_add-n-in-loop-i : goal.overflow_add-n-in-loop-i
-overflow_add-n-in-loop-i c = omega (arith, small c.before, is_digit_true _ (digit c.before).0)
+overflow_add-n-in-loop-i c =
+    let a = c.args in
+    let l = c.loop-i in
+    let d = digit_next a.q.now a.from l.i a.count c.loop-i-test.true (omega arith) l.invariant.2 in
+    omega (arith, value_small l.n l.i (omega arith) l.invariant.1, is_digit_true _ d.0)
 
 pub overflow_add-i : goal.overflow_add-i
 overflow_add-i c = omega arith
@@ -58,7 +52,7 @@ pub loop-i-preserved : goal.loop-i-preserved
 loop-i-preserved c =
     let a = c.args in
     let l = c.loop-i in
-    let d = digit c.before in (
+    let d = digit_next a.q.now a.from l.i a.count c.loop-i-test.true (omega arith) l.invariant.2 in (
       omega arith,
       value_grows l.n l.i (get_or a.q.now (a.from + l.i) 0) l.invariant.1 d.0,
       d.1,

@@ -10,4 +10,4 @@ count-requires c = search rules
 
 pub returns : goal.returns
 returns c =
-    counted_left c.args.jet.now c.requires.0 c.type_inv.jet c.count.ensures
+    counted_left c.args.jet.now c.requires.0 c.slice_known-1.given c.count.ensures

@@ -5,8 +5,8 @@ use Rattle.printer.proofs.jet.put_both.Goals as goal
 
 pub returns : goal.returns
 returns c =
-    both_left c.args.jet.now c.requires.0 c.type_inv.jet c.args.message.now c.args.q.now c.requires.3
+    both_left c.args.jet.now c.requires.0 c.slice_known-1.given c.args.message.now c.args.q.now c.requires.3
     c.put_message.ensures
-    (c.put_message.auto.0 ∙ c.requires.0)
-    c.type_inv.jet
+    (c.put_message.auto.jet ∙ c.requires.0)
+    c.slice_known-2-1.given
     c.put_parameters.ensures

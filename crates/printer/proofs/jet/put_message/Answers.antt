@@ -16,4 +16,4 @@ shape_of-jet c = c.jet-1.given.1 ∙ simp length-set
 
 pub returns : goal.returns
 returns c =
-    laid_left c.args.jet.now c.requires.0 c.type_inv.jet c.requires.1 c.lay.ensures
+    laid_left c.args.jet.now c.requires.0 c.slice_known-1.given c.requires.1 c.lay.ensures

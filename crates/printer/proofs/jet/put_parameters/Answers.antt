@@ -21,6 +21,6 @@ set_to-requires c =
 
 pub returns : goal.returns
 returns c =
-    parameters_left c.args.jet.now c.requires.0 c.type_inv.jet c.args.q.now c.requires.1
+    parameters_left c.args.jet.now c.requires.0 c.slice_known-1.given c.args.q.now c.requires.1
     c.lay.ensures
     c.set_to.ensures

@@ -4,8 +4,8 @@ use Rattle.printer.proofs.jet.update_jet.Goals as goal
 
 pub returns : goal.returns
 returns c =
-    updated_left c.args.jet.now c.requires.0 c.type_inv.jet c.args.text.now
+    updated_left c.args.jet.now c.requires.0 c.slice_known-1.given c.args.text.now
     c.message_length-end.ensures
     c.requires.1
-    c.lay_text.auto.0
+    c.lay_text.auto.s
     c.lay_text.ensures

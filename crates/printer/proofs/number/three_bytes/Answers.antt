@@ -4,8 +4,7 @@ use Rattle.printer.proofs.Numbers.{number_three}
 use Rattle.printer.proofs.number.three_bytes.Goals as goal
 
 pub returns : goal.returns
-returns c =
-    (
-      rw (c.wide.ensures.0, c.wide-2.ensures.0, c.wide-3.ensures.0) (number_three c.args.s.now c.args.at c.requires),
-      omega arith,
-    )
+returns c = (
+  rw (c.wide.ensures.0, c.wide-2.ensures.0, c.wide-3.ensures.0) (number_three c.args.s.now c.args.at c.requires),
+  omega arith,
+)

@@ -1,4 +1,4 @@
-use Prim.Native.Nat.{◌+◌, ◌-◌}
+use Prim.Native.Nat.{◌+◌}
 use mathlib.Core.Path.{◌∙◌, ap}
 use native.Mathlib.Omega.{arith}
 use Rattle.frame.proofs.Lent.{laid_length}
@@ -48,7 +48,7 @@ loop-n-preserved c =
     let l = c.loop-n in (
       omega arith,
       counted_more (valid_size c.args.state.now c.requires) c.loop-n-test.true l.invariant.1
-          (c.count_jet.auto.0 ∙ part_full l.state l.at (laid_length l.invariant.1.laid ∙ (valid_size c.args.state.now c.requires)) (omega (arith, l.invariant.1.place)))
+          (c.count_jet.auto.jet ∙ part_full l.state l.at (laid_length l.invariant.1.laid ∙ (valid_size c.args.state.now c.requires)) (omega (arith, l.invariant.1.place)))
           c.count_jet.ensures,
     )
 

@@ -3,7 +3,7 @@ use mathlib.Core.Path.{refl, sym, ◌∙◌}
 use native.Mathlib.Omega.{arith}
 use borrow.Author.Tests.{not-true, not-false}
 use Rattle.printer.specs.State.{printer_of}
-use Rattle.printer.specs.Print.{ready, print}
+use Rattle.printer.specs.Print.{print}
 use Rattle.printer.specs.Receive.{obeyed}
 use Rattle.printer.proofs.Said.{one_byte, meets_refusal, meets_printed}
 use Rattle.printer.proofs.Valid.{valid_size}

@@ -47,7 +47,7 @@ part_fits s {n = n} e =
 
 pub overflow_add-size : goal.overflow_add-size
 overflow_add-size c =
-    omega (arith, update_inside c.args.s.now (sym c.receive-found.ensures.answer ∙ c.in-Update.is), «left»at_start.well-formed.1.1.0)
+    omega (arith, update_inside c.args.s.now (sym c.receive-found.ensures.answer ∙ c.in-Update.is), c.well_formed.1.1.0)
 
 pub slice_bounds-update_fields-end : goal.slice_bounds-update_fields-end
 slice_bounds-update_fields-end c =
@@ -55,7 +55,7 @@ slice_bounds-update_fields-end c =
 
 pub overflow_add-size-in-Frame : goal.overflow_add-size-in-Frame
 overflow_add-size-in-Frame c =
-    omega (arith, frame_inside c.args.s.now (sym c.receive-found.ensures.answer ∙ c.in-Frame.is), «left»at_start.well-formed.1.1.0)
+    omega (arith, frame_inside c.args.s.now (sym c.receive-found.ensures.answer ∙ c.in-Frame.is), c.well_formed.1.1.0)
 
 pub slice_bounds-obey-end : goal.slice_bounds-obey-end
 slice_bounds-obey-end c =

@@ -100,7 +100,7 @@ pub returns-then-identifier-eq57 : goal.returns-then-identifier-eq57
 unfolding printer_order ask_counter
 returns-then-identifier-eq57 c =
     asked c.args.state.now c.args.identifier 0x39 c.args.d.now c.args.strips.now
-    (at_row (printer_of c.args.state.now) 0x39 c.args.d.now c.if-identifier-eq57.true) (request_asks request.Counter (printer_of c.args.state.now) c.args.d.now) c.requires.0 c.type_inv.state c.requires.1
+    (at_row (printer_of c.args.state.now) 0x39 c.args.d.now c.if-identifier-eq57.true) (request_asks request.Counter (printer_of c.args.state.now) c.args.d.now) c.requires.0 c.slice_known-1.given c.requires.1
     c.request_order-told.ensures c.plain.ensures c.settle-then-identifier-eq57.ensures
 
 pub change_order-requires-then-identifier-eq66 : goal.change_order-requires-then-identifier-eq66
@@ -127,7 +127,7 @@ pub returns-then-identifier-eq67 : goal.returns-then-identifier-eq67
 unfolding printer_order ask_message
 returns-then-identifier-eq67 c =
     asked c.args.state.now c.args.identifier 0x43 c.args.d.now c.args.strips.now
-    (at_row (printer_of c.args.state.now) 0x43 c.args.d.now c.if-identifier-eq67.true) (request_asks request.Message (printer_of c.args.state.now) c.args.d.now) c.requires.0 c.type_inv.state c.requires.1
+    (at_row (printer_of c.args.state.now) 0x43 c.args.d.now c.if-identifier-eq67.true) (request_asks request.Message (printer_of c.args.state.now) c.args.d.now) c.requires.0 c.slice_known-1.given c.requires.1
     c.request_order-told-then-identifier-eq67.ensures c.plain-then-identifier-eq67.ensures c.settle-then-identifier-eq67.ensures
 
 pub ask_table-told-requires : goal.ask_table-told-requires
@@ -142,7 +142,7 @@ pub returns-then-identifier-eq82 : goal.returns-then-identifier-eq82
 unfolding printer_order ask_table
 returns-then-identifier-eq82 c =
     asked c.args.state.now c.args.identifier 0x52 c.args.d.now c.args.strips.now
-    (at_row (printer_of c.args.state.now) 0x52 c.args.d.now c.if-identifier-eq82.true) (table_asks _) c.requires.0 c.type_inv.state c.requires.1
+    (at_row (printer_of c.args.state.now) 0x52 c.args.d.now c.if-identifier-eq82.true) (table_asks _) c.requires.0 c.slice_known-1.given c.requires.1
     c.ask_table-told.ensures c.plain-then-identifier-eq82.ensures c.settle-then-identifier-eq82.ensures
 
 pub returns-then-identifier-eq148 : goal.returns-then-identifier-eq148
@@ -159,5 +159,5 @@ pub returns : goal.returns
 unfolding printer_order ask_clock
 returns c =
     asked c.args.state.now c.args.identifier 0xD6 c.args.d.now c.args.strips.now
-    (last_row (printer_of c.args.state.now) c.args.identifier c.args.d.now c.if-identifier-eq10.false c.if-identifier-eq11.false c.if-identifier-eq12.false c.if-identifier-eq57.false c.if-identifier-eq66.false c.if-identifier-eq67.false c.if-identifier-eq82.false c.if-identifier-eq148.false) (clock_asks _) c.requires.0 c.type_inv.state c.requires.1
+    (last_row (printer_of c.args.state.now) c.args.identifier c.args.d.now c.if-identifier-eq10.false c.if-identifier-eq11.false c.if-identifier-eq12.false c.if-identifier-eq57.false c.if-identifier-eq66.false c.if-identifier-eq67.false c.if-identifier-eq82.false c.if-identifier-eq148.false) (clock_asks _) c.requires.0 c.slice_known-1.given c.requires.1
     c.ask_clock-told.ensures c.plain-2.ensures c.settle-2.ensures

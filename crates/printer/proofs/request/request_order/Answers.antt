@@ -5,32 +5,30 @@ use Rattle.printer.proofs.Orders.{here, untold, told_behind}
 use Rattle.printer.proofs.Part.{Stands, part_inside, part_size, part_jet, part_short, not_named, named, stands}
 use Rattle.printer.proofs.request.request_order.Goals as goal
 
-jet : (c : goal.Else-at-eq0) → let a = c.args in Stands a.state.now (jet_number a.d.now) «left»c.before.IsPlace-in.result
-jet c =
-    stands «left»c.before.IsPlace-in.ensures c.if-at-eq0.false (valid_size _ c.requires.0) c.type_inv.state
-
 pub place_in-at-requires : goal.place_in-at-requires
 place_in-at-requires c =
     (valid_size _ c.requires.0, c.requires.1)
 
 pub returns-then-at-eq0 : goal.returns-then-at-eq0
-returns-then-at-eq0 c = untold c.refused.ensures (here (not_named «left»c.before.before.IsPlace-in.ensures c.if-at-eq0.true))
+returns-then-at-eq0 c = untold c.refused.ensures (here (not_named c.place_in-at.ensures c.if-at-eq0.true))
 
 pub slice_bounds-jet-end : goal.slice_bounds-jet-end
-slice_bounds-jet-end c = part_inside (jet c)
+slice_bounds-jet-end c = part_inside (stands c.place_in-at.ensures c.if-at-eq0.false (valid_size _ c.requires.0) c.type_inv.state)
 
 pub ask_counter-requires : goal.ask_counter-requires
 ask_counter-requires c =
-    (part_size (jet c.before.before.before.before), c.requires.2)
+    (part_size (stands c.place_in-at.ensures c.if-at-eq0.false (valid_size _ c.requires.0) c.type_inv.state), c.requires.2)
 
 pub ask_message-requires : goal.ask_message-requires
 ask_message-requires c =
-    let j = jet c.before.before.before.before in (part_size j, part_short j c.requires.0, c.requires.2)
+    let j = stands c.place_in-at.ensures c.if-at-eq0.false (valid_size _ c.requires.0) c.type_inv.state in (part_size j, part_short j c.requires.0, c.requires.2)
 
 pub returns-in-Counter : goal.returns-in-Counter
 returns-in-Counter c =
-    rw c.in-Counter.is (told_behind (named «left»at-place-in.IsPlace-in.ensures c.if-at-eq0.false) (rw (part_jet (jet c.before.before.before.before.before.before.before)) at c.ask_counter.ensures))
+    let j : Stands c.args.state.now (jet_number c.args.d.now) c.place_in-at.result = stands c.place_in-at.ensures c.if-at-eq0.false (valid_size _ c.requires.0) c.type_inv.state in
+    rw c.in-Counter.is (told_behind (named c.place_in-at.ensures c.if-at-eq0.false) (rw (part_jet j) at c.ask_counter.ensures))
 
 pub returns-in-Message : goal.returns-in-Message
 returns-in-Message c =
-    rw c.in-Message.is (told_behind (named «left»at-place-in.IsPlace-in.ensures c.if-at-eq0.false) (rw (part_jet (jet c.before.before.before.before.before.before.before)) at c.ask_message.ensures))
+    let j : Stands c.args.state.now (jet_number c.args.d.now) c.place_in-at.result = stands c.place_in-at.ensures c.if-at-eq0.false (valid_size _ c.requires.0) c.type_inv.state in
+    rw c.in-Message.is (told_behind (named c.place_in-at.ensures c.if-at-eq0.false) (rw (part_jet j) at c.ask_message.ensures))

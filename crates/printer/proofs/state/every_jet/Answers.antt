@@ -1,9 +1,6 @@
-use Prim.Native.Nat.{◌+◌, ◌-◌}
-use mathlib.Core.Path.{◌≡◌, sym, ◌∙◌}
+use mathlib.Core.Path.{sym, ◌∙◌}
 use native.Mathlib.Omega.{arith}
 use borrow.Author.Tests.{not-true, not-false}
-use borrow.Rule.Slice.PartMut.{mid_of}
-use Rattle.printer.specs.Jet.{has_jet, jet_size, jet_of}
 use Rattle.printer.specs.Print.{asked}
 use Rattle.printer.specs.State.{printer_of}
 use Rattle.printer.proofs.Memory.{walk_starts, walk_fails, walk_goes, walk_ends, jet_tested, part_full}
@@ -16,24 +13,21 @@ pub asked-requires : goal.asked-requires
 asked-requires c =
     part_full c.args.state.now c.loop-n.at c.requires (omega arith)
 
--- The test of the n-th jet gave what the rule's gives.
-tested : (c : goal.After-asked)
-    → let m = c.args.state.now in
-    let w = c.loop-n in
-    asked c.args.question (has_jet (printer_of m).model w.n) (jet_of (mid_of w.at (w.at + jet_size - w.at) m)) ≡ c.asked.result
+pub returns-then-not-asked : goal.returns-then-not-asked
 unfolding printer_of
-tested c =
+returns-then-not-asked c =
     let m = c.args.state.now in
     let w = c.loop-n in
-    jet_tested (asked c.args.question) (printer_of m).model m w.n w.at c.jet_number.ensures c.has_jet.ensures c.asked.ensures
-
-pub returns-then-not-asked : goal.returns-then-not-asked
-returns-then-not-asked c =
-    sym (walk_fails _ _ c.loop-n.invariant (omega arith) (tested c.before ∙ not-true _ c.if-not-asked.true-raw))
+    let tested = jet_tested (asked c.args.question) (printer_of m).model m w.n w.at c.jet_number.ensures c.has_jet.ensures c.asked.ensures in
+    sym (walk_fails _ _ c.loop-n.invariant (omega arith) (tested ∙ not-true _ c.if-not-asked.true-raw))
 
 pub loop-n-preserved : goal.loop-n-preserved
+unfolding printer_of
 loop-n-preserved c =
-    walk_goes _ _ c.loop-n.invariant (omega arith) (tested c.before ∙ not-false _ c.if-not-asked.false-raw)
+    let m = c.args.state.now in
+    let w = c.loop-n in
+    let tested = jet_tested (asked c.args.question) (printer_of m).model m w.n w.at c.jet_number.ensures c.has_jet.ensures c.asked.ensures in
+    walk_goes _ _ c.loop-n.invariant (omega arith) (tested ∙ not-false _ c.if-not-asked.false-raw)
 
 pub returns : goal.returns
 returns c = sym (walk_ends _ _ c.loop-n.invariant (omega arith))
