@@ -27,7 +27,7 @@ pub returns-then-n-s : goal.returns-then-n-s
 returns-then-n-s c =
     let a = c.args in
     let u = c.update_size-n in
-    closed a.s.now u.result c.if-n-lt-TEXT.true c.if-n-s.true ∙ ap (updated a.s.now) u.ensures
+    closed a.s.now u.result (omega arith) (omega arith) ∙ ap (updated a.s.now) u.ensures
 
 pub returns-then-s-lt-WHOLE : goal.returns-then-s-lt-WHOLE
 returns-then-s-lt-WHOLE c =

@@ -12,13 +12,6 @@ use Rattle.frame.specs.contracts.receive.Received.{the_type}
 use Rattle.serving.proofs.Laws.{front_inside, no_room, roomy_partial, roomy_whole}
 use Rattle.serving.proofs.hold.serve_held.Goals as goal
 
--- The places of all but `Partial` among the variants.
-abbrev others : List ℕ
-others = 1 ∷ 2 ∷ 3 ∷ 4 ∷ 5 ∷ []
-
-not_partial : (f : Received) → OneOf others (tag_of the_type f) → f ≡ Partial → ⊥
-not_partial f h e = miss others 0 tt (subst (λ (x : Received). OneOf others (tag_of the_type x)) e h)
-
 pub returns-then-buffer-n : goal.returns-then-buffer-n
 returns-then-buffer-n c =
     let a = c.args in
@@ -44,4 +37,4 @@ pub returns : goal.returns
 returns c =
     let a = c.args in
     roomy_whole a.state.now a.store.now a.buffer.now a.answer.now a.strips.now a.n a.byte c.if-buffer-n.false
-    (λ e. not_partial c.receive-found.result c.in_default.(in_default-own).keys2 (c.receive-found.ensures.answer ∙ e)) c.behind-2.ensures c.receive.ensures
+    (λ e. c.in_default.not-Partial (c.receive-found.ensures.answer ∙ e)) c.behind-2.ensures c.receive.ensures
