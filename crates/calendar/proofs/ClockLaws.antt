@@ -12,7 +12,7 @@ use Rattle.frame.specs.Ground.{pick, within}
 use Rattle.frame.proofs.Ground.{both_true, true_both, true_within, pick_case}
 use Rattle.content.specs.Byte.{is_character}
 use Rattle.content.specs.StripLaws.{printable}
-use Rattle.calendar.specs.Clock.{clock_text, date, days_in, entries, entry, is_leap, month_entry, months, next_date, next_hour, next_minute, next_month, next_year, no_entry, tick}
+use Rattle.calendar.specs.Clock.{clock_text, days_in, entries, entry, is_leap, month_entry, months, next_date, next_hour, next_minute, next_month, next_year, no_entry, tick}
 use Rattle.calendar.specs.ClockLaws.{EntriesPlaced, EntriesPrint, EntriesSample, EntryPrints, TextsLong, TickReal, TimeSamples}
 use Rattle.calendar.specs.declared.clock.Clock.{Clock}
 use Rattle.calendar.specs.declared.clock.Date.{Date}

@@ -1,18 +1,16 @@
 -- The laws of the date change that specs/DateChangeLaws states. The day before and the next day each undo the other, case by case; and by the
 -- seconds since midnight, a tick passes HHMM, stays on one side of it, or begins the next day.
-use Prim.Native.Nat.{ℕ, ◌+◌, ◌*◌, ◌-◌, ◌/◌, ◌%◌, ◌≤◌, ◌<◌}
+use Prim.Native.Nat.{ℕ, ◌+◌, ◌-◌, ◌/◌, ◌%◌, ◌≤◌, ◌<◌}
 use mathlib.Core.Bool.{Bool, true, false}
-use mathlib.Core.List.{List, [], ◌∷◌}
-use mathlib.Core.Path.{◌≡◌, refl, sym, ◌∙◌, ap, subst}
+use mathlib.Core.List.{[], ◌∷◌}
+use mathlib.Core.Path.{◌≡◌, refl, sym, ◌∙◌, ap}
 use native.Mathlib.Omega.{arith}
-use borrow.Author.Tests.{eq-eqb, ne_eqb, eqb-true, eqb-false, lt-ltb, le-ltb, ltb-true, ltb-false, leb-true, le-leb}
+use borrow.Author.Tests.{eqb-true, eqb-false, lt-ltb, le-ltb, ltb-true, ltb-false, leb-true}
 use lib.Dec.{eqb, ltb}
-use lib.ListN.{length, length-append}
-use Rattle.frame.specs.Ground.{pick}
 use Rattle.frame.proofs.Ground.{both_true, never, pick_case}
-use Rattle.calendar.specs.Clock.{codes_text, date, days_in, is_date, is_leap, is_real, moment, next_date, next_hour, next_minute, next_month, next_year, ones, previous_date, previous_month, previous_year, tick, two}
+use Rattle.calendar.specs.Clock.{codes_text, date, days_in, is_leap, moment, next_date, next_hour, next_minute, next_month, next_year, ones, previous_date, previous_month, previous_year, tick, two}
 use Rattle.calendar.specs.DateChange.{change_text, is_before, is_time, midnight, printed, printed_date}
-use Rattle.calendar.specs.DateChangeLaws.{BeforeBySeconds, MidnightPrints, Passes, Precedes, PreviousSamples, PreviousUndone, PrintedDayTurns, PrintedSamples, PrintedStands, TableLong, TableSample, TableTells, Tells, Turns, digits_of, seconds}
+use Rattle.calendar.specs.DateChangeLaws.{BeforeBySeconds, MidnightPrints, Passes, PreviousSamples, PreviousUndone, PrintedDayTurns, PrintedSamples, PrintedStands, TableLong, TableSample, TableTells, Tells, Turns, digits_of, seconds}
 use Rattle.calendar.specs.declared.clock.Clock.{Clock}
 use Rattle.calendar.specs.declared.clock.Date.{Date}
 use Rattle.calendar.specs.declared.date_change.TimeOfDay.{TimeOfDay}

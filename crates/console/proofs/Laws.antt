@@ -229,6 +229,11 @@ module _ {s m store : List ℕ} {place : ℕ} (a : At s m store place) where
 pub rest_lent : (place : ℕ) (s : List ℕ) → mid_of place (length s - place) s ≡ drop place s
 rest_lent place s = take_all (length s - place) (drop place s) (simp length-drop (omega arith))
 
+-- A call on those bytes as they are lent.
+pub turned : (place : ℕ) {m store : List ℕ} (s : List ℕ) {text : List ℕ} {r : Turn} {m' store' text' : List ℕ}
+    → Turns m store (mid_of place (length s - place) s) text r m' store' text' → Turns m store (drop place s) text r m' store' text'
+turned place {m} {store} s {text} {r} {m'} {store'} {text'} t = subst (λ (l : List ℕ). Turns m store l text r m' store' text') (rest_lent place s) t
+
 -- What a line leaves of its buffer, and what a call consumes, lie inside.
 pub line_inside : {m store s text m' store' text' : List ℕ} {r : Turn} → Turns m store s text r m' store' text' → r.size ≤ length text'
 line_inside {m} {store} {s} {text} {text' = text'} {r = r} t = front_fits (line_of (outcome m (full store s))) text text' r.size t.size t.line

@@ -1,12 +1,12 @@
 -- What is held is what is not whole yet: the rule of what is held asks the same as the receiver's, in the same order.
-use Prim.Native.Nat.{ℕ, suc, ◌+◌, ◌-◌, ◌≤◌, ◌<◌}
+use Prim.Native.Nat.{ℕ, suc, ◌+◌, ◌≤◌, ◌<◌}
 use mathlib.Core.Bool.{Bool, true, false, ◌||◌, false≢true}
-use mathlib.Core.List.{List, [], ◌∷◌, ◌++◌}
-use mathlib.Core.Path.{◌≡◌, refl, sym, ◌∙◌, ap, subst}
+use mathlib.Core.List.{List, [], ◌∷◌}
+use mathlib.Core.Path.{◌≡◌, refl, sym, ◌∙◌, ap}
 use native.Mathlib.Omega.{arith}
-use borrow.Author.Tests.{eq-eqb, ne_eqb, eqb-true, eqb-false, lt-ltb, le-ltb, ltb-true, ltb-false, le-leb, lt-leb, leb-true, leb-false}
+use borrow.Author.Tests.{eq-eqb, ne_eqb, eqb-true, eqb-false, lt-ltb, le-ltb, ltb-true, ltb-false, leb-true, leb-false}
 use lib.Dec.{eqb, leb, ltb}
-use lib.ListN.{length, get_or, take, drop, length-drop}
+use lib.ListN.{length, get_or, drop, length-drop}
 use lib.Seq.{take_all}
 use Rattle.frame.specs.Ground.{pick, both, has}
 use Rattle.frame.specs.Wire.{enquiry, update_opens, update_closes, longest_update, update_marks, head_size, around, longest_data}
@@ -14,7 +14,6 @@ use Rattle.frame.specs.Receive.{received, updated, framed, run, text_space, data
 use Rattle.frame.specs.Holding.{free_of, is_held}
 use Rattle.frame.specs.declared.receive.Received.{Received}
 use Rattle.frame.specs.declared.receive.Received.TheVariants.{Partial, Refused, Misfit, Enquiry, Update, Frame}
-use Rattle.frame.proofs.Ground.{text_length}
 use Rattle.frame.proofs.Laws.{verified, verified_case}
 
 -- ---- No 03h is among bytes exactly where all of them stand before the first.

@@ -7,17 +7,16 @@ use native.Mathlib.Omega.{arith}
 use borrow.Author.Tests.{eq-eqb, ne_eqb, eqb-true, eqb-false, lt-ltb, le-ltb, ltb-true, ltb-false, le-leb, lt-leb, leb-true, leb-false}
 use lib.Dec.{eqb, leb, ltb}
 use lib.ListN.{length, get_or, set, take, drop, take-append-drop, length-append, length-drop, length-set, get_or-append}
-use lib.Seq.{append_snoc, take-append-le, take-append_seam, take-suc-set, take_all, take-length, drop-append-le, length-take-le}
-use Rattle.frame.specs.Ground.{pick, both, within}
+use lib.Seq.{append_snoc, take-append-le, take-suc-set, take_all, take-length, drop-append-le, length-take-le}
+use Rattle.frame.specs.Ground.{within}
 use Rattle.frame.specs.Wire.{enquiry, update_opens, update_closes, word, longest_update, update_marks, head_size, around, longest_data}
 use Rattle.frame.specs.Receive.{received, updated, framed, run, text_space, data_length, number, consumed}
-use Rattle.frame.specs.Holding.{buffer_behind, holding_behind, holding_size, is_held, is_holding, silenced}
-use Rattle.frame.specs.HoldingLaws.{ByteCompletes, Completes, Follows, FourStays, HeldPartial, HoldingExactly, HoldingFollows, Left, LeftBySome, LeftExactly, SilenceEmpties, dropping, held_in, leaves, leaves_from, left_behind, left_by, number_of, waiting}
-use Rattle.frame.specs.declared.holding.Holding.{Holding}
+use Rattle.frame.specs.Holding.{holding_size, is_held, is_holding}
+use Rattle.frame.specs.HoldingLaws.{ByteCompletes, Follows, FourStays, HeldPartial, HoldingExactly, HoldingFollows, Left, LeftBySome, LeftExactly, SilenceEmpties, dropping, leaves_from, left_behind, left_by, waiting}
 use Rattle.frame.specs.declared.holding.Holding.TheVariants.{Held, Dropping}
 use Rattle.frame.specs.declared.receive.Received.{Received}
 use Rattle.frame.specs.declared.receive.Received.TheVariants.{Partial, Refused, Misfit, Enquiry, Update, Frame}
-use Rattle.frame.proofs.Ground.{both_true, pick_case, text_length}
+use Rattle.frame.proofs.Ground.{both_true, pick_case}
 use Rattle.frame.proofs.Laws.{consumed_whole, verified, verified_case}
 use Rattle.frame.proofs.Heard.{Sound, sound}
 use Rattle.frame.proofs.Held.{is_partial, partial_tells, held_is_partial}

@@ -1,6 +1,6 @@
 -- What is true of what is held between single bytes: it is exactly what bursts leave, and bytes that come one at a time are sorted as they
 -- are when they come together.
-use Rattle.std.specs.Prelude.{ℕ, ◌+◌, true, List, [], ◌∷◌, ◌++◌, ◌↔◌, ◌≡◌, eqb, length, take}
+use Rattle.std.specs.Prelude.{ℕ, true, List, [], ◌∷◌, ◌++◌, ◌↔◌, ◌≡◌, eqb, length, take}
 use Rattle.frame.specs.Ground.{pick}
 use Rattle.frame.specs.Receive.{received, number, consumed}
 use Rattle.frame.specs.Holding.{buffer_behind, holding_behind, is_held, is_holding, silenced}

@@ -16,6 +16,7 @@ pub enum Step {
 }
 
 // Where no whole record begins, the records end.
+#[tactic(auto, using(crate::proofs::Walks::ends_mark, crate::proofs::Walks::ends_second))]
 pub fn record_at(store: &[u8], at: usize) -> Step
     ensures { result ≡ step_at store.now at }
 {

@@ -1,5 +1,5 @@
 -- The samples of document 01 that are marked P, in one list: what is fed in, and what must come out.
-use Rattle.std.specs.Prelude.{ℕ, ◌+◌, List, [], ◌∷◌, ◌++◌, replicate}
+use Rattle.std.specs.Prelude.{ℕ, List, [], ◌∷◌, ◌++◌, replicate}
 use Rattle.frame.specs.Ground.{placed, plain}
 use Rattle.frame.specs.Build.{frame}
 use Rattle.frame.specs.declared.given.Given.{Given}

@@ -1,12 +1,12 @@
 // The line: what comes is read as it comes, the time is looked at after each read, and each byte is served.
 ghost use Rattle.std.specs.Prelude.{◌<◌, length, ◌≡◌};
+ghost use Rattle.std.specs.Io.{ReadsAtMost};
 ghost use Rattle.printer.specs.Receive.{answer_size, strips_size};
 ghost use Rattle.thebox.specs.Line.{Feeds, Passes, Steps, Takes, four, stand};
 
 use crate::say::{answer_failed, clock_failed, read_failed, strip_failed};
 use calendar::clock::Clock;
 use frame::holding::{HOLDING, Holding};
-use libc::{STDIN_FILENO, STDOUT_FILENO};
 use library::store::STORE;
 use machine::machine_time;
 use printer::answer::{ANSWER, Answered, STRIPS};
@@ -14,23 +14,35 @@ use printer::call::fresh;
 use printer::state::STATE;
 use serving::hold::serve;
 use serving::pace::{Instant, due, instant_of, is_silence, since, tick_all};
+use std::fs::File;
+use std::io;
+use std::io::{IsTerminal, Read, Write};
+use std::process::ExitCode;
 
 // How many bytes are read at a time.
 const READ: usize = 256;
 
 // What the program was started with.
-#[derive(Drop)]
+#[derive(Clone, Copy)]
 struct Settings {
     tty: bool,
     watchdog: u8,
-    // Where the strips go, -1 where they go nowhere.
-    strips: i32,
     // When it was started, in the machine's milliseconds.
     began: u64,
 }
 
-// What it keeps from turn to turn besides the state.
+// What the box reads from and writes to.
 #[derive(Drop)]
+struct Outside {
+    rt: HostRuntime,
+    // Where the strips go, if anywhere.
+    strips: Option<File>,
+    // What the program ends with: it is a failure once something failed and was said.
+    status: ExitCode,
+}
+
+// What it keeps from turn to turn besides the state.
+#[derive(Clone, Copy)]
 struct Course {
     holding: Holding,
     // When the last byte came.
@@ -40,14 +52,14 @@ struct Course {
 }
 
 // The course behind a turn, and whether another follows.
-#[derive(Drop)]
+#[derive(Clone, Copy)]
 struct Turn {
     course: Course,
     goes: bool,
 }
 
-fn now() -> Instant {
-    let time = machine_time();
+fn now(rt: &HostRuntime) -> Instant {
+    let time = machine_time(rt);
     instant_of(time.tv_sec, time.tv_nsec)
 }
 
@@ -60,27 +72,27 @@ fn printed(strips: [usize; 4]) -> usize
 }
 
 // Each print is appended whole, before it is acknowledged: a print head would hang here.
-fn print_out(fd: i32, strips: &[u8]) -> bool {
-    if fd < 0 {
+fn print_out(outside: &mut Outside, strips: &[u8]) -> bool {
+    let Some(file) = &mut outside.strips else {
         return true;
-    }
-    if !io::write_all(fd, strips) {
-        strip_failed();
+    };
+    if let Err(why) = file.write_all(strips) {
+        outside.status = strip_failed(&outside.rt, &why);
         return false;
     }
     true
 }
 
-fn answer_out(answer: &[u8]) -> bool {
-    if !io::write_all(STDOUT_FILENO, answer) {
-        answer_failed();
+fn answer_out(outside: &mut Outside, answer: &[u8]) -> bool {
+    if let Err(why) = outside.rt.write_all(answer) {
+        outside.status = answer_failed(&outside.rt, &why);
         return false;
     }
     true
 }
 
 // The holding behind some bytes, and whether all that they came to was written.
-#[derive(Drop)]
+#[derive(Clone, Copy)]
 struct Fed {
     holding: Holding,
     written: bool,
@@ -93,7 +105,7 @@ fn feed_byte(
     holding: Holding,
     buffer: &mut [u8],
     byte: u8,
-    fd: i32,
+    outside: &mut Outside,
     answer: &mut [u8],
     strips: &mut [u8],
 ) -> Fed
@@ -106,13 +118,13 @@ fn feed_byte(
     let lengths = answered.strips;
     let size = printed(lengths);
     let holding = served.holding;
-    if !print_out(fd, &strips[..size]) {
+    if !print_out(outside, &strips[..size]) {
         return Fed {
             holding,
             written: false,
         };
     }
-    let written = answer_out(&answer[..n]);
+    let written = answer_out(outside, &answer[..n]);
     Fed { holding, written }
 }
 
@@ -123,7 +135,7 @@ fn feed(
     holding: Holding,
     buffer: &mut [u8],
     s: &[u8],
-    fd: i32,
+    outside: &mut Outside,
 ) -> Fed
     ensures { Feeds (stand state.old store.old holding buffer.old) s.now result.holding result.written state.new store.new buffer.new }
 {
@@ -134,7 +146,7 @@ fn feed(
     let mut come = holding;
     let mut i = 0;
     while i < s.len() {
-        let fed = feed_byte(state, store, come, buffer, s[i], fd, answer, strips);
+        let fed = feed_byte(state, store, come, buffer, s[i], outside, answer, strips);
         if !fed.written {
             return fed;
         }
@@ -180,6 +192,7 @@ fn take(
     course: Course,
     s: &[u8],
     at: u64,
+    outside: &mut Outside,
 ) -> Turn
     ensures { Takes settings course at s.now state.old store.old buffer.old result state.new store.new buffer.new }
 {
@@ -191,7 +204,7 @@ fn take(
         };
     }
     let before = passed.holding;
-    let fed = feed(state, store, before, buffer, s, settings.strips);
+    let fed = feed(state, store, before, buffer, s, outside);
     let holding = fed.holding;
     Turn {
         course: Course {
@@ -203,18 +216,26 @@ fn take(
     }
 }
 
-// Whether there is nothing more to read, and not because a pipe has ended: the read failed, or it brought nothing and the tty is none any more. A line that is cut off while nobody reads gives no bytes for ever after.
-fn cut_off(got: isize, tty: bool) -> bool {
-    if got < 0 {
-        return true;
-    }
+// Whether there is nothing more to read, and not because a pipe has ended: the read brought nothing and the tty is none any more. A line that is cut off while nobody reads gives no bytes for ever after.
+fn cut_off(rt: &HostRuntime, got: usize, tty: bool) -> bool {
     if 0 < got {
         return false;
     }
     if !tty {
         return false;
     }
-    libc::isatty(STDIN_FILENO) != 1
+    !rt.stdin().is_terminal()
+}
+
+// One read of what has come. A line that was cut off is an error too.
+fn read_some(rt: &HostRuntime, tty: bool, bytes: &mut [u8]) -> io::Result<usize>
+    ensures { ReadsAtMost result bytes.new }
+{
+    let got = rt.stdin().read(bytes)?;
+    if cut_off(rt, got, tty) {
+        return Err(io::Error::other("it is a terminal no longer"));
+    }
+    Ok(got)
 }
 
 // One read and what it came to.
@@ -224,29 +245,40 @@ fn read_once(
     buffer: &mut [u8],
     settings: Settings,
     course: Course,
+    outside: &mut Outside,
 ) -> Turn {
     let mut bytes = [0; READ];
-    let got = libc::read(STDIN_FILENO, &mut bytes);
-    if cut_off(got, settings.tty) {
-        read_failed();
-        return Turn {
-            course,
-            goes: false,
-        };
-    }
-    let n = io::count(got, &bytes);
-    let Instant::At(at) = now() else {
-        clock_failed();
+    let n = match read_some(&outside.rt, settings.tty, &mut bytes) {
+        Ok(n) => n,
+        Err(why) => {
+            outside.status = read_failed(&outside.rt, &why);
+            return Turn {
+                course,
+                goes: false,
+            };
+        }
+    };
+    let Instant::At(at) = now(&outside.rt) else {
+        outside.status = clock_failed(&outside.rt);
         return Turn {
             course,
             goes: false,
         };
     };
-    take(state, store, buffer, settings, course, &bytes[..n], at)
+    take(
+        state,
+        store,
+        buffer,
+        settings,
+        course,
+        &bytes[..n],
+        at,
+        outside,
+    )
 }
 
 // Turn by turn. A proved loop has to end, and nothing says that a line does: so turns are counted down from a number that no run uses up.
-fn serve_line(model: u8, clock: Clock, settings: Settings) {
+fn serve_line(model: u8, clock: Clock, settings: Settings, outside: &mut Outside) {
     let mut state_room = [0; STATE];
     let state: &mut [u8] = &mut state_room;
     fresh(state, model, clock);
@@ -261,7 +293,7 @@ fn serve_line(model: u8, clock: Clock, settings: Settings) {
     };
     let mut turns = u64::MAX;
     while 0 < turns {
-        let turn = read_once(state, store, buffer, settings, course);
+        let turn = read_once(state, store, buffer, settings, course, outside);
         if !turn.goes {
             return;
         }
@@ -270,12 +302,22 @@ fn serve_line(model: u8, clock: Clock, settings: Settings) {
     }
 }
 
-// A fresh printer of the type at the moment, with an empty store, on standard input and output.
-pub(crate) fn run(model: u8, clock: Clock, watchdog: u8, strips: i32) {
-    let tty = libc::isatty(STDIN_FILENO) == 1;
-    let Instant::At(began) = now() else {
-        clock_failed();
-        return;
+// A fresh printer of the type at the moment, with an empty store, on standard input and output. The program then ends with this status.
+pub(crate) fn run(
+    rt: HostRuntime,
+    model: u8,
+    clock: Clock,
+    watchdog: u8,
+    strips: Option<File>,
+) -> ExitCode {
+    let tty = rt.stdin().is_terminal();
+    let Instant::At(began) = now(&rt) else {
+        return clock_failed(&rt);
+    };
+    let mut outside = Outside {
+        rt,
+        strips,
+        status: ExitCode::SUCCESS,
     };
     serve_line(
         model,
@@ -283,8 +325,9 @@ pub(crate) fn run(model: u8, clock: Clock, watchdog: u8, strips: i32) {
         Settings {
             tty,
             watchdog,
-            strips,
             began,
         },
+        &mut outside,
     );
+    outside.status
 }

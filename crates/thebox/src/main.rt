@@ -8,23 +8,24 @@ mod say;
 use asked::{Asked, Strips, read_words};
 use line::run;
 use say::{refuse_moment, refuse_strips, refuse_type, refuse_watchdog, usage};
+use std::process::ExitCode;
 
-fn main() {
-    let asked = read_words();
+fn main(rt: HostRuntime) -> ExitCode {
+    let asked = read_words(&rt);
     match asked {
-        Asked::Other => usage(),
-        Asked::BadType => refuse_type(),
-        Asked::BadMoment => refuse_moment(),
-        Asked::BadWatchdog => refuse_watchdog(),
+        Asked::Other => usage(&rt),
+        Asked::BadType => refuse_type(&rt),
+        Asked::BadMoment => refuse_moment(&rt),
+        Asked::BadWatchdog => refuse_watchdog(&rt),
         Asked::Box {
             model,
             clock,
             watchdog,
             strips,
         } => match strips {
-            Strips::Failed => refuse_strips(),
-            Strips::Nowhere => run(model, clock, watchdog, -1),
-            Strips::To(fd) => run(model, clock, watchdog, fd),
+            Strips::Failed(why) => refuse_strips(&rt, &why),
+            Strips::Nowhere => run(rt, model, clock, watchdog, None),
+            Strips::To(file) => run(rt, model, clock, watchdog, Some(file)),
         },
     }
 }

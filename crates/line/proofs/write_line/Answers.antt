@@ -1,13 +1,10 @@
 -- `line::write_line` meets its contract. A line that doesn't fit is refused before the first store; else what is given, the space, what `write_hex` leaves behind them and the newline are the line laid over the buffer's front.
-use Prim.Native.Nat.{ℕ, ◌+◌, ◌*◌, ◌-◌}
-use mathlib.Core.List.{List}
-use mathlib.Core.Path.{◌≡◌, ◌∙◌, ap}
+use Prim.Native.Nat.{◌+◌, ◌*◌}
 use native.Mathlib.Omega.{arith}
 use borrow.Author.Rules.{rules}
-use borrow.Rule.Slice.PartMut.{put_mid}
 use lib.ListN.{length, set, length-set, length-drop}
-use Rattle.frame.proofs.Ground.{lent_tail, length_over}
-use Rattle.line.specs.Line.{space, given_text}
+use Rattle.frame.proofs.Ground.{lent_tail}
+use Rattle.line.specs.Line.{space}
 use Rattle.line.proofs.Laws.{too_short, written}
 use Rattle.line.proofs.write_line.Goals as goal
 

@@ -1,4 +1,3 @@
-use Prim.Native.Nat.{◌-◌}
 use native.Mathlib.Omega.{arith}
 use Rattle.content.specs.Position.{field_positions}
 use Rattle.content.proofs.Stretches.{found, found_none, fields_taken, fields_left, fields_none}

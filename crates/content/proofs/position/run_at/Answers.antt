@@ -1,4 +1,4 @@
-use Prim.Native.Nat.{◌-◌, ◌<◌}
+use Prim.Native.Nat.{◌<◌}
 use native.Mathlib.Omega.{arith}
 use Rattle.content.proofs.Stretches.{Walks, not_walked, walks_on, walks_to, walked_out, walked_unfit}
 use Rattle.content.proofs.position.run_at.Goals as goal

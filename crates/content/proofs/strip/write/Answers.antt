@@ -1,7 +1,6 @@
-use Prim.Native.Nat.{◌-◌, ◌≤◌, ◌<◌}
 use mathlib.Core.Path.{◌∙◌, refl}
 use native.Mathlib.Omega.{arith}
-use lib.ListN.{length, length-set}
+use lib.ListN.{length-set}
 use Rattle.content.proofs.Puts.{not_written, reads_ahead, room, wrote_past, end_fits, ended, unfit, kept}
 use Rattle.content.proofs.strip.write.Goals as goal
 

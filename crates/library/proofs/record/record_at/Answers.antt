@@ -1,6 +1,6 @@
 -- `library::record::record_at` meets its contract. Its tests are those of the rule, read at the place; behind the last of them the record is whole.
 use native.Mathlib.Omega.{arith}
-use Rattle.library.proofs.Walks.{ends_short, ends_mark, ends_second, ends_long, reads}
+use Rattle.library.proofs.Walks.{ends_short, ends_long, reads}
 use Rattle.library.proofs.record.record_at.Goals as goal
 
 pub returns-then-size-lt-HEAD : goal.returns-then-size-lt-HEAD
@@ -8,15 +8,6 @@ returns-then-size-lt-HEAD c = let a = c.args in ends_short a.store.now a.at (ome
 
 pub returns-then-size-at : goal.returns-then-size-at
 returns-then-size-at c = let a = c.args in ends_short a.store.now a.at (omega arith)
-
-pub returns-then-store-at-ne76 : goal.returns-then-store-at-ne76
-returns-then-store-at-ne76 c =
-    let a = c.args in ends_mark a.store.now a.at c.if-store-at-ne76.true
-
-pub returns-then-store-at-ne82 : goal.returns-then-store-at-ne82
-returns-then-store-at-ne82 c =
-    let a = c.args in
-    ends_second a.store.now a.at c.if-store-at-ne82.true
 
 pub returns-then-size-body : goal.returns-then-size-body
 returns-then-size-body c =
@@ -28,4 +19,4 @@ pub returns : goal.returns
 returns c =
     let a = c.args in
     let told = c.word-length in
-    reads a.store.now a.at told.result told.ensures.value c.if-store-at-ne76.false c.if-store-at-ne82.false (omega arith)
+    reads a.store.now a.at told.result told.ensures.value (omega arith) (omega arith) (omega arith)

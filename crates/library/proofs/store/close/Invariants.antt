@@ -1,6 +1,6 @@
 -- `library::store::close` meets its contract. The loop keeps that the records that stay are those before the lower place and those that are
 -- still to come, which stand as they were; moving one down brings it from the second to the first.
-use Prim.Native.Nat.{ℕ, ◌+◌, ◌-◌, ◌≤◌}
+use Prim.Native.Nat.{ℕ, ◌-◌, ◌≤◌}
 use mathlib.Core.List.{List, ◌++◌}
 use mathlib.Core.Path.{◌≡◌}
 use lib.ListN.{length, take, drop}

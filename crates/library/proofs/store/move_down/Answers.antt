@@ -1,4 +1,3 @@
-use Prim.Native.Nat.{◌-◌}
 use native.Mathlib.Omega.{arith}
 use Rattle.library.proofs.Moves.{moved_here, moving_starts, moving_next, moving_ends}
 use Rattle.library.proofs.store.move_down.Goals as goal

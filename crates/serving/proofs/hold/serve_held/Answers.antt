@@ -1,14 +1,7 @@
 -- `serving::hold::serve_held` meets its contract: there is no room, or the byte stands behind those that were held and these are not whole yet, or
 -- the box is called on them.
-use Prim.Native.Nat.{ℕ}
-use mathlib.Core.List.{List, [], ◌∷◌}
-use mathlib.Core.Path.{◌≡◌, sym, ◌∙◌, subst}
-use types.Run.{OneOf, miss}
-use denote.Enum.Declared.{tag_of}
+use mathlib.Core.Path.{sym, ◌∙◌}
 use lib.Seq.{length-take-le}
-use Rattle.frame.specs.declared.receive.Received.{Received}
-use Rattle.frame.specs.declared.receive.Received.TheVariants.{Partial}
-use Rattle.frame.specs.contracts.receive.Received.{the_type}
 use Rattle.serving.proofs.Laws.{front_inside, no_room, roomy_partial, roomy_whole}
 use Rattle.serving.proofs.hold.serve_held.Goals as goal
 

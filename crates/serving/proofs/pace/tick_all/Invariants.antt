@@ -1,5 +1,4 @@
 -- `serving::pace::tick_all` meets its contract: the ticks that are left, from the state come to, make what all would have made.
-use Prim.Native.Nat.{◌-◌}
 use mathlib.Core.Path.{◌≡◌}
 use lib.ListN.{length}
 use Rattle.serving.specs.Pace.{ticked}
