@@ -72,7 +72,7 @@ struct Ran {
     written: bool,
 }
 
-// Calls until the box waits for more or no bytes are left. A failed write ends it too: the program then ends without the rest of its lines, and with status 0, since a `main` has no other.
+// Calls until the box waits for more or no bytes are left. A failed write ends it too: the program then ends without the rest of its lines, and with status 0.
 fn run(state: &mut [u8], store: &mut [u8], s: &[u8]) -> Ran
     requires { (state.old ≡ start_state) × (store.old ≡ start_store) }
     ensures { Runs s.now result state.new store.new }

@@ -16,7 +16,8 @@ use Rattle.printer.specs.declared.single.Taken.{Taken}
 abbrev pub FreshensUnique : Type 0
 FreshensUnique = (m : List ℕ) (model : ℕ) (clock : Clock) → OneOutcome (Freshens m model clock)
 
--- `set_clock`, `set_date_change` and `tick` are the orders `set_clock`, `set_date_change` and `tick_clock`, and of every order this is true.
+-- The calls `set_clock`, `set_date_change` and `tick` obey the orders of `Call` that are named `set_clock`, `set_date_change` and `tick_clock`, and of
+-- every order this is true.
 abbrev pub ObeysUnique : Type 0
 ObeysUnique = (o : Order) (m : List ℕ) → OneOutcome (Obeys o m)
 
