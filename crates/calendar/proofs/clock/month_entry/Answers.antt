@@ -1,5 +1,5 @@
 -- `calendar::clock::month_entry` meets its contract. The three letters of a month from 1 to 12 stand at their place in the table.
-use Prim.Native.Nat.{◌*◌, ◌-◌, ◌≤◌}
+use Prim.Native.Nat.{◌*◌, ◌-◌}
 use mathlib.Core.Path.{sym, ◌∙◌}
 use native.Mathlib.Omega.{arith}
 use borrow.Author.Tests.{not-true, not-false}
@@ -12,11 +12,11 @@ returns-then-not-within c = rw (sym c.within.ensures ∙ not-true c.within.resul
 
 pub overflow_sub-i : goal.overflow_sub-i
 overflow_sub-i c =
-    let month : (1 ≤ c.args.month) × (c.args.month ≤ 12) = within_true 1 12 c.args.month (sym c.within.ensures ∙ not-false c.within.result c.if-not-within.false-raw) in
+    let month = within_true 1 12 c.args.month (sym c.within.ensures ∙ not-false c.within.result c.if-not-within.false-raw) in
     month.0
 
 pub returns : goal.returns
 returns c =
-    let month : (1 ≤ c.args.month) × (c.args.month ≤ 12) = within_true 1 12 c.args.month (sym c.within.ensures ∙ not-false c.within.result c.if-not-within.false-raw) in
+    let month = within_true 1 12 c.args.month (sym c.within.ensures ∙ not-false c.within.result c.if-not-within.false-raw) in
     rw (sym c.within.ensures ∙ not-false c.within.result c.if-not-within.false-raw)
     (sym (three_at months (3 * (c.args.month - 1)) (omega (arith, month))))

@@ -4,7 +4,7 @@ use mathlib.Core.Path.{◌≡◌, refl, sym, ◌∙◌, ap}
 use native.Mathlib.Omega.{arith}
 use lib.ListN.{take, drop}
 use Rattle.library.specs.Store.{body_of}
-use Rattle.library.proofs.Walks.{Walked, walked, ended, body_here, body_past}
+use Rattle.library.proofs.Walks.{walked, ended, body_here, body_past}
 use Rattle.library.proofs.store.body.Goals as goal
 
 no_bytes : (s : List ℕ) (at : ℕ) → take (at - at) (drop at s) ≡ []
@@ -18,33 +18,28 @@ loop-number-init c = (omega arith, refl)
 
 pub slice_bounds-result-count : goal.slice_bounds-result-count
 slice_bounds-result-count c =
-    let here : Walked c.args.store.now c.loop-number.at c.in-Read.number c.in-Read.end = walked _ _ c.record_at-step.ensures c.in-Read.is in
-    let w = here in omega (arith, w.ahead)
+    let w = walked c.args.store.now c.loop-number.at c.record_at-step.ensures c.in-Read.is in omega (arith, w.ahead)
 
 pub slice_bounds-result-start : goal.slice_bounds-result-start
 slice_bounds-result-start c =
-    let here : Walked c.args.store.now c.loop-number.at c.in-Read.number c.in-Read.end = walked _ _ c.record_at-step.ensures c.in-Read.is in
-    let w = here in omega (arith, w.ahead, w.inside)
+    let w = walked c.args.store.now c.loop-number.at c.record_at-step.ensures c.in-Read.is in omega (arith, w.ahead, w.inside)
 
 pub slice_bounds-result-end : goal.slice_bounds-result-end
 slice_bounds-result-end c =
-    let here : Walked c.args.store.now c.loop-number.at c.in-Read.number c.in-Read.end = walked _ _ c.record_at-step.ensures c.in-Read.is in
-    let w = here in omega (arith, w.ahead, w.inside)
+    let w = walked c.args.store.now c.loop-number.at c.record_at-step.ensures c.in-Read.is in omega (arith, w.ahead, w.inside)
 
 pub returns-then-number-n : goal.returns-then-number-n
 returns-then-number-n c =
-    let here : Walked c.args.store.now c.loop-number.at c.in-Read.number c.in-Read.end = walked _ _ c.record_at-step.ensures c.in-Read.is in
-    sym (c.loop-number.invariant.1 ∙ body_here c.args.n here c.if-number-n.true)
+    let w = walked c.args.store.now c.loop-number.at c.record_at-step.ensures c.in-Read.is in
+    sym (c.loop-number.invariant.1 ∙ body_here c.args.n w c.if-number-n.true)
 
 pub loop-number-smaller : goal.loop-number-smaller
 loop-number-smaller c =
-    let here : Walked c.args.store.now c.loop-number.at c.in-Read.number c.in-Read.end = walked _ _ c.record_at-step.ensures c.in-Read.is in
-    let w = here in omega (arith, w.ahead, w.inside)
+    let w = walked c.args.store.now c.loop-number.at c.record_at-step.ensures c.in-Read.is in omega (arith, w.ahead, w.inside)
 
 pub loop-number-preserved : goal.loop-number-preserved
 loop-number-preserved c =
-    let here : Walked c.args.store.now c.loop-number.at c.in-Read.number c.in-Read.end = walked _ _ c.record_at-step.ensures c.in-Read.is in
-    let w = here in
+    let w = walked c.args.store.now c.loop-number.at c.record_at-step.ensures c.in-Read.is in
     (w.inside, c.loop-number.invariant.1 ∙ body_past c.args.n w c.if-number-n.false)
 
 pub returns-in-Ends : goal.returns-in-Ends

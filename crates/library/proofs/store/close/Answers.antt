@@ -65,47 +65,41 @@ loop-number-init c = starts c.args.store.now c.args.n
 
 pub overflow_sub-end : goal.overflow_sub-end
 overflow_sub-end c =
-    let here : Walked c.args.store.now c.loop-number.at c.in-Read.number c.in-Read.end = walks c.loop-number.invariant c.record_at-step.ensures c.in-Read.is in
-    let w = here in omega (arith, w.ahead)
+    let w = walks c.loop-number.invariant c.record_at-step.ensures c.in-Read.is in omega (arith, w.ahead)
 
 pub move_down-requires : goal.move_down-requires
 move_down-requires c =
-    let here : Walked c.args.store.now c.loop-number.at c.in-Read.number c.in-Read.end = walks c.loop-number.invariant c.record_at-step.ensures c.in-Read.is in
-    let w = here in
+    let w = walks c.loop-number.invariant c.record_at-step.ensures c.in-Read.is in
     let p = c.loop-number.invariant in
     (omega (arith, p.below), omega (arith, w.ahead, w.inside, p.size))
 
 pub overflow_sub-to : goal.overflow_sub-to
 overflow_sub-to c =
-    let here : Walked c.args.store.now c.loop-number.at c.in-Read.number c.in-Read.end = walks c.loop-number.invariant c.record_at-step.ensures c.in-Read.is in
-    let w = here in omega (arith, w.ahead)
+    let w = walks c.loop-number.invariant c.record_at-step.ensures c.in-Read.is in omega (arith, w.ahead)
 
 pub overflow_add-to : goal.overflow_add-to
 overflow_add-to c =
-    let here : Walked c.args.store.now c.loop-number.at c.in-Read.number c.in-Read.end = walks c.loop-number.invariant c.record_at-step.ensures c.in-Read.is in
-    let w = here in
+    let w = walks c.loop-number.invariant c.record_at-step.ensures c.in-Read.is in
     omega (arith, w.ahead, w.inside, c.loop-number.invariant.below)
 
 pub loop-number-smaller-then-number-n : goal.loop-number-smaller-then-number-n
 loop-number-smaller-then-number-n c =
-    let here : Walked c.args.store.now c.loop-number.at c.in-Read.number c.in-Read.end = walks c.loop-number.invariant c.record_at-step.ensures c.in-Read.is in
-    let w = here in omega (arith, w.ahead, w.inside)
+    let w = walks c.loop-number.invariant c.record_at-step.ensures c.in-Read.is in omega (arith, w.ahead, w.inside)
 
 pub loop-number-preserved-then-number-n : goal.loop-number-preserved-then-number-n
 loop-number-preserved-then-number-n c =
-    let here : Walked c.args.store.now c.loop-number.at c.in-Read.number c.in-Read.end = walks c.loop-number.invariant c.record_at-step.ensures c.in-Read.is in
+    let w = walks c.loop-number.invariant c.record_at-step.ensures c.in-Read.is in
     rw c.move_down.ensures
-    (stays c.loop-number.invariant here (λ i. (c.slice_known-1.given i).fits) c.if-number-n.true)
+    (stays c.loop-number.invariant w (λ i. (c.slice_known-1.given i).fits) c.if-number-n.true)
 
 pub loop-number-smaller : goal.loop-number-smaller
 loop-number-smaller c =
-    let here : Walked c.args.store.now c.loop-number.at c.in-Read.number c.in-Read.end = walks c.loop-number.invariant c.record_at-step.ensures c.in-Read.is in
-    let w = here in omega (arith, w.ahead, w.inside)
+    let w = walks c.loop-number.invariant c.record_at-step.ensures c.in-Read.is in omega (arith, w.ahead, w.inside)
 
 pub loop-number-preserved : goal.loop-number-preserved
 loop-number-preserved c =
-    let here : Walked c.args.store.now c.loop-number.at c.in-Read.number c.in-Read.end = walks c.loop-number.invariant c.record_at-step.ensures c.in-Read.is in
-    taken_out c.loop-number.invariant here c.if-number-n.false
+    let w = walks c.loop-number.invariant c.record_at-step.ensures c.in-Read.is in
+    taken_out c.loop-number.invariant w c.if-number-n.false
 
 pub shape_of-store-in-Ends : goal.shape_of-store-in-Ends
 shape_of-store-in-Ends c =

@@ -80,8 +80,8 @@ loop-number-init c = starts c.args.store.now c.if-store-ne-STORE.false
 
 pub returns-then-not-is_number : goal.returns-then-not-is_number
 returns-then-not-is_number c =
-    let here : Walked c.args.store.now c.loop-number.at c.in-Read.number c.in-Read.end = walked _ _ c.record_at-step.ensures c.in-Read.is in
-    no_number c.loop-number.invariant here (sym c.is_number.ensures ∙ not-true _ c.if-not-is_number.true-raw)
+    let w = walked c.args.store.now c.loop-number.at c.record_at-step.ensures c.in-Read.is in
+    no_number c.loop-number.invariant w (sym c.is_number.ensures ∙ not-true _ c.if-not-is_number.true-raw)
 
 pub bounds-seen-number : goal.bounds-seen-number
 bounds-seen-number c =
@@ -90,9 +90,9 @@ bounds-seen-number c =
 
 pub returns-then-seen-number : goal.returns-then-seen-number
 returns-then-seen-number c =
-    let here : Walked c.args.store.now c.loop-number.at c.in-Read.number c.in-Read.end = walked _ _ c.record_at-step.ensures c.in-Read.is in
+    let w = walked c.args.store.now c.loop-number.at c.record_at-step.ensures c.in-Read.is in
     let numbered : is_number c.in-Read.number ≡ true = sym c.is_number.ensures ∙ not-false _ c.if-not-is_number.false-raw in
-    seen_before c.loop-number.invariant here numbered c.if-seen-number.true
+    seen_before c.loop-number.invariant w numbered c.if-seen-number.true
 
 pub bounds-seen-number-in-Read : goal.bounds-seen-number-in-Read
 bounds-seen-number-in-Read c =
@@ -101,14 +101,13 @@ bounds-seen-number-in-Read c =
 
 pub loop-number-smaller : goal.loop-number-smaller
 loop-number-smaller c =
-    let here : Walked c.args.store.now c.loop-number.at c.in-Read.number c.in-Read.end = walked _ _ c.record_at-step.ensures c.in-Read.is in
-    let w = here in omega (arith, w.ahead, w.inside)
+    let w = walked c.args.store.now c.loop-number.at c.record_at-step.ensures c.in-Read.is in omega (arith, w.ahead, w.inside)
 
 pub loop-number-preserved : goal.loop-number-preserved
 loop-number-preserved c =
-    let here : Walked c.args.store.now c.loop-number.at c.in-Read.number c.in-Read.end = walked _ _ c.record_at-step.ensures c.in-Read.is in
+    let w = walked c.args.store.now c.loop-number.at c.record_at-step.ensures c.in-Read.is in
     let numbered : is_number c.in-Read.number ≡ true = sym c.is_number.ensures ∙ not-false _ c.if-not-is_number.false-raw in
-    goes_on c.loop-number.invariant here numbered c.if-seen-number.false
+    goes_on c.loop-number.invariant w numbered c.if-seen-number.false
 
 pub slice_bounds-blank-count : goal.slice_bounds-blank-count
 slice_bounds-blank-count c = c.loop-number.invariant.inside

@@ -26,35 +26,29 @@ loop-number-init c = (omega arith, omega arith, omega arith)
 
 pub overflow_sub-size : goal.overflow_sub-size
 overflow_sub-size c =
-    let here : Walked c.args.store.now c.loop-number.at c.in-Read.number c.in-Read.end = walked _ _ c.record_at-step.ensures c.in-Read.is in
-    let w = here in omega (arith, w.ahead)
+    let w = walked c.args.store.now c.loop-number.at c.record_at-step.ensures c.in-Read.is in omega (arith, w.ahead)
 
 pub overflow_add-size : goal.overflow_add-size
 overflow_add-size c =
-    let here : Walked c.args.store.now c.loop-number.at c.in-Read.number c.in-Read.end = walked _ _ c.record_at-step.ensures c.in-Read.is in
-    let w = here in omega (arith, w.ahead, w.inside)
+    let w = walked c.args.store.now c.loop-number.at c.record_at-step.ensures c.in-Read.is in omega (arith, w.ahead, w.inside)
 
 pub loop-number-smaller-then-number-n : goal.loop-number-smaller-then-number-n
 loop-number-smaller-then-number-n c =
-    let here : Walked c.args.store.now c.loop-number.at c.in-Read.number c.in-Read.end = walked _ _ c.record_at-step.ensures c.in-Read.is in
-    let w = here in omega (arith, w.ahead, w.inside)
+    let w = walked c.args.store.now c.loop-number.at c.record_at-step.ensures c.in-Read.is in omega (arith, w.ahead, w.inside)
 
 pub loop-number-preserved-then-number-n : goal.loop-number-preserved-then-number-n
 loop-number-preserved-then-number-n c =
-    let here : Walked c.args.store.now c.loop-number.at c.in-Read.number c.in-Read.end = walked _ _ c.record_at-step.ensures c.in-Read.is in
-    let w = here in
+    let w = walked c.args.store.now c.loop-number.at c.record_at-step.ensures c.in-Read.is in
     let more = left_past c.args.n w c.if-number-n.true in
     (omega (arith, w.ahead), w.inside, omega (arith, c.loop-number.invariant.2))
 
 pub loop-number-smaller : goal.loop-number-smaller
 loop-number-smaller c =
-    let here : Walked c.args.store.now c.loop-number.at c.in-Read.number c.in-Read.end = walked _ _ c.record_at-step.ensures c.in-Read.is in
-    let w = here in omega (arith, w.ahead, w.inside)
+    let w = walked c.args.store.now c.loop-number.at c.record_at-step.ensures c.in-Read.is in omega (arith, w.ahead, w.inside)
 
 pub loop-number-preserved : goal.loop-number-preserved
 loop-number-preserved c =
-    let here : Walked c.args.store.now c.loop-number.at c.in-Read.number c.in-Read.end = walked _ _ c.record_at-step.ensures c.in-Read.is in
-    let w = here in
+    let w = walked c.args.store.now c.loop-number.at c.record_at-step.ensures c.in-Read.is in
     let more = left_here c.args.n w c.if-number-n.false in
     (omega (arith, w.ahead), w.inside, omega (arith, c.loop-number.invariant.2))
 

@@ -71,6 +71,18 @@ module _ (s : List ℕ) (at n : ℕ) (body : List ℕ) (full : length s ≡ stor
             ∙ append_assoc (take at s) (head n (length body) ++ body) zeros;
       }
 
+  -- What `lay` and then `clear` leave.
+  inside : (last : List ℕ) (r : Bool) → let xs : List ℕ = headed s at n (length body) in
+      Lays (mid_of (at + head_size) (length xs - (at + head_size)) xs) body r last → length (behind s at n body last) ≡ store_size
+  inside last r p = laid_length (behind s at n body last) (body_laid last r p)
+
+  puts : (last zeros : List ℕ) (r : Bool) → let xs : List ℕ = headed s at n (length body) in
+      Lays (mid_of (at + head_size) (length xs - (at + head_size)) xs) body r last
+      → let from : ℕ = at + head_size + length body in
+      let ys : List ℕ = behind s at n body last in
+      zeros ≡ replicate (length (mid_of from (length ys - from) ys)) 0 → PutsLast s at n body (put_mid from (length ys - from) ys zeros)
+  puts last zeros r p q = cleared (behind s at n body last) zeros (body_laid last r p) q
+
   puts_length : (s' : List ℕ) → PutsLast s at n body s' → length s' ≡ length s
   puts_length s' p =
       let k : ℕ = store_size - (at + (head_size + length body)) in
@@ -99,54 +111,21 @@ slice_bounds-lay-start c = simp length-set (omega arith)
 
 pub slice_bounds-clear-count : goal.slice_bounds-clear-count
 slice_bounds-clear-count c =
-    let laid : let a = c.args in
-    behind a.store.now a.at a.n a.body.now c.lay.new.out
-    ≡ over (fore a.store.now a.at a.n (length a.body.now) ++ a.body.now) a.store.now = let a = c.args in
-    let lay = c.lay in
-    body_laid a.store.now a.at a.n a.body.now c.requires.0 c.requires.1 lay.new.out lay.result lay.ensures in
-    let inside : let a = c.args in
-    length (behind a.store.now a.at a.n a.body.now c.lay.new.out) ≡ store_size = let a = c.args in
-    laid_length a.store.now a.at a.n a.body.now c.requires.0 c.requires.1 _ laid in
-    omega (arith, inside)
+    let a = c.args in
+    omega (arith, inside a.store.now a.at a.n a.body.now c.requires.0 c.requires.1 c.lay.new.out c.lay.result c.lay.ensures)
 
 pub slice_bounds-clear-start : goal.slice_bounds-clear-start
 slice_bounds-clear-start c =
-    let laid : let a = c.args in
-    behind a.store.now a.at a.n a.body.now c.lay.new.out
-    ≡ over (fore a.store.now a.at a.n (length a.body.now) ++ a.body.now) a.store.now = let a = c.args in
-    let lay = c.lay in
-    body_laid a.store.now a.at a.n a.body.now c.requires.0 c.requires.1 lay.new.out lay.result lay.ensures in
-    let inside : let a = c.args in
-    length (behind a.store.now a.at a.n a.body.now c.lay.new.out) ≡ store_size = let a = c.args in
-    laid_length a.store.now a.at a.n a.body.now c.requires.0 c.requires.1 _ laid in
-    omega (arith, inside)
+    let a = c.args in
+    omega (arith, inside a.store.now a.at a.n a.body.now c.requires.0 c.requires.1 c.lay.new.out c.lay.result c.lay.ensures)
 
 pub shape_of-store : goal.shape_of-store
 shape_of-store c =
-    let laid : let a = c.args in
-    behind a.store.now a.at a.n a.body.now c.lay.new.out
-    ≡ over (fore a.store.now a.at a.n (length a.body.now) ++ a.body.now) a.store.now = let a = c.args in
-    let lay = c.lay in
-    body_laid a.store.now a.at a.n a.body.now c.requires.0 c.requires.1 lay.new.out lay.result lay.ensures in
-    let puts : let a = c.args in
-    let from = a.at + head_size + length a.body.now in
-    let xs = behind a.store.now a.at a.n a.body.now c.lay.new.out in
-    PutsLast a.store.now a.at a.n a.body.now (put_mid from (length xs - from) xs c.clear.new.bytes) = let a = c.args in
-    cleared a.store.now a.at a.n a.body.now c.requires.0 c.requires.1
-    (behind a.store.now a.at a.n a.body.now c.lay.new.out) c.clear.new.bytes laid c.clear.ensures in
-    puts_length c.args.store.now c.args.at c.args.n c.args.body.now c.requires.0 c.requires.1 _ puts
+    let a = c.args in
+    puts_length a.store.now a.at a.n a.body.now c.requires.0 c.requires.1 _
+    (puts a.store.now a.at a.n a.body.now c.requires.0 c.requires.1 c.lay.new.out c.clear.new.bytes c.lay.result c.lay.ensures c.clear.ensures)
 
 pub returns : goal.returns
 returns c =
-    let laid : let a = c.args in
-    behind a.store.now a.at a.n a.body.now c.lay.new.out
-    ≡ over (fore a.store.now a.at a.n (length a.body.now) ++ a.body.now) a.store.now = let a = c.args in
-    let lay = c.lay in
-    body_laid a.store.now a.at a.n a.body.now c.requires.0 c.requires.1 lay.new.out lay.result lay.ensures in
-    let puts : let a = c.args in
-    let from = a.at + head_size + length a.body.now in
-    let xs = behind a.store.now a.at a.n a.body.now c.lay.new.out in
-    PutsLast a.store.now a.at a.n a.body.now (put_mid from (length xs - from) xs c.clear.new.bytes) = let a = c.args in
-    cleared a.store.now a.at a.n a.body.now c.requires.0 c.requires.1
-    (behind a.store.now a.at a.n a.body.now c.lay.new.out) c.clear.new.bytes laid c.clear.ensures in
-    puts
+    let a = c.args in
+    puts a.store.now a.at a.n a.body.now c.requires.0 c.requires.1 c.lay.new.out c.clear.new.bytes c.lay.result c.lay.ensures c.clear.ensures

@@ -45,45 +45,45 @@ some_left {s} {k} e n = lt-ltb 0 k (omega arith)
 
 pub slice_bounds-positions-end : goal.slice_bounds-positions-end
 slice_bounds-positions-end c =
-    let s : Stands c.args.state.now 1 c.jet_place-first.result = first c.args.state.now c.requires c.slice_known-1.given c.jet_place-first.ensures.0 c.head_jet.ensures c.first_head.ensures in
+    let s = first c.args.state.now c.requires c.slice_known-1.given c.jet_place-first.ensures.0 c.head_jet.ensures c.first_head.ensures in
     part_inside s
 
 pub positions-taken-requires : goal.positions-taken-requires
 positions-taken-requires c =
-    let s : Stands c.args.state.now 1 c.jet_place-first.result = first c.args.state.now c.requires c.slice_known-1.given c.jet_place-first.ensures.0 c.head_jet.ensures c.first_head.ensures in
+    let s = first c.args.state.now c.requires c.slice_known-1.given c.jet_place-first.ensures.0 c.head_jet.ensures c.first_head.ensures in
     (part_size s, part_short s c.requires)
 
 pub slice_bounds-positions-end-2 : goal.slice_bounds-positions-end-2
 slice_bounds-positions-end-2 c =
-    let t : Stands c.args.state.now 2 c.jet_place-second.result = second c.args.state.now c.requires c.slice_known-1.given c.jet_place-second.ensures.0 c.head_jet-2.ensures c.first_head-2.ensures in
+    let t = second c.args.state.now c.requires c.slice_known-1.given c.jet_place-second.ensures.0 c.head_jet-2.ensures c.first_head-2.ensures in
     part_inside t
 
 pub positions-requires : goal.positions-requires
 positions-requires c =
-    let t : Stands c.args.state.now 2 c.jet_place-second.result = second c.args.state.now c.requires c.slice_known-1.given c.jet_place-second.ensures.0 c.head_jet-2.ensures c.first_head-2.ensures in
+    let t = second c.args.state.now c.requires c.slice_known-1.given c.jet_place-second.ensures.0 c.head_jet-2.ensures c.first_head-2.ensures in
     (part_size t, part_short t c.requires)
 
 pub returns-then-all-eq0 : goal.returns-then-all-eq0
 unfolding update_fields
 returns-then-all-eq0 c =
-    let s : Stands c.args.state.now 1 c.jet_place-first.result = first c.args.state.now c.requires c.slice_known-1.given c.jet_place-first.ensures.0 c.head_jet.ensures c.first_head.ensures in
-    let t : Stands c.args.state.now 2 c.jet_place-second.result = second c.args.state.now c.requires c.slice_known-1.given c.jet_place-second.ensures.0 c.head_jet-2.ensures c.first_head-2.ensures in
+    let s = first c.args.state.now c.requires c.slice_known-1.given c.jet_place-first.ensures.0 c.head_jet.ensures c.first_head.ensures in
+    let t = second c.args.state.now c.requires c.slice_known-1.given c.jet_place-second.ensures.0 c.head_jet-2.ensures c.first_head-2.ensures in
     let all = counted s t c.positions-taken.ensures.0 c.positions.ensures.0 in
     refused c.plain.ensures (here (none_left all c.if-all-eq0.true))
 
 pub returns-then-text-all : goal.returns-then-text-all
 unfolding update_fields
 returns-then-text-all c =
-    let s : Stands c.args.state.now 1 c.jet_place-first.result = first c.args.state.now c.requires c.slice_known-1.given c.jet_place-first.ensures.0 c.head_jet.ensures c.first_head.ensures in
-    let t : Stands c.args.state.now 2 c.jet_place-second.result = second c.args.state.now c.requires c.slice_known-1.given c.jet_place-second.ensures.0 c.head_jet-2.ensures c.first_head-2.ensures in
+    let s = first c.args.state.now c.requires c.slice_known-1.given c.jet_place-first.ensures.0 c.head_jet.ensures c.first_head.ensures in
+    let t = second c.args.state.now c.requires c.slice_known-1.given c.jet_place-second.ensures.0 c.head_jet-2.ensures c.first_head-2.ensures in
     let all = counted s t c.positions-taken.ensures.0 c.positions.ensures.0 in
     refused c.plain-then-text-all.ensures (past (some_left all c.if-all-eq0.false) (here (ne_eqb _ _ (λ e. c.if-text-all.true (e ∙ sym all)))))
 
 pub returns-then-i-all : goal.returns-then-i-all
 unfolding update_fields
 returns-then-i-all c =
-    let s : Stands c.args.state.now 1 c.jet_place-first.result = first c.args.state.now c.requires c.slice_known-1.given c.jet_place-first.ensures.0 c.head_jet.ensures c.first_head.ensures in
-    let t : Stands c.args.state.now 2 c.jet_place-second.result = second c.args.state.now c.requires c.slice_known-1.given c.jet_place-second.ensures.0 c.head_jet-2.ensures c.first_head-2.ensures in
+    let s = first c.args.state.now c.requires c.slice_known-1.given c.jet_place-first.ensures.0 c.head_jet.ensures c.first_head.ensures in
+    let t = second c.args.state.now c.requires c.slice_known-1.given c.jet_place-second.ensures.0 c.head_jet-2.ensures c.first_head-2.ensures in
     let all = counted s t c.positions-taken.ensures.0 c.positions.ensures.0 in
     let front = c.characters_in_front-i.ensures in
     refused (c.placed.ensures ∙ ap (placed 13) front)
@@ -93,7 +93,7 @@ returns-then-i-all c =
 
 pub slice_bounds-update_jet-end : goal.slice_bounds-update_jet-end
 slice_bounds-update_jet-end c =
-    let s : Stands c.args.state.now 1 c.jet_place-first.result = first c.args.state.now c.requires c.slice_known-1.given c.jet_place-first.ensures.0 c.head_jet.ensures c.first_head.ensures in
+    let s = first c.args.state.now c.requires c.slice_known-1.given c.jet_place-first.ensures.0 c.head_jet.ensures c.first_head.ensures in
     part_inside s
 
 pub slice_bounds-update_jet-end-2 : goal.slice_bounds-update_jet-end-2
@@ -102,29 +102,29 @@ slice_bounds-update_jet-end-2 c =
 
 pub update_jet-requires : goal.update_jet-requires
 update_jet-requires c =
-    let s : Stands c.args.state.now 1 c.jet_place-first.result = first c.args.state.now c.requires c.slice_known-1.given c.jet_place-first.ensures.0 c.head_jet.ensures c.first_head.ensures in
+    let s = first c.args.state.now c.requires c.slice_known-1.given c.jet_place-first.ensures.0 c.head_jet.ensures c.first_head.ensures in
     (part_size s, part_short s c.requires)
 
 -- The second jet when the first is written.
 pub slice_bounds-update_jet-end-3 : goal.slice_bounds-update_jet-end-3
 slice_bounds-update_jet-end-3 c =
-    let s : Stands c.args.state.now 1 c.jet_place-first.result = first c.args.state.now c.requires c.slice_known-1.given c.jet_place-first.ensures.0 c.head_jet.ensures c.first_head.ensures in
-    let t : Stands c.args.state.now 2 c.jet_place-second.result = second c.args.state.now c.requires c.slice_known-1.given c.jet_place-second.ensures.0 c.head_jet-2.ensures c.first_head-2.ensures in
+    let s = first c.args.state.now c.requires c.slice_known-1.given c.jet_place-first.ensures.0 c.head_jet.ensures c.first_head.ensures in
+    let t = second c.args.state.now c.requires c.slice_known-1.given c.jet_place-second.ensures.0 c.head_jet-2.ensures c.first_head-2.ensures in
     let still = second_stands s t c.update_jet.new.jet c.update_jet.auto.jet c.slice_known-2-1.given in
     part_inside still
 
 pub update_jet-requires-2 : goal.update_jet-requires-2
 update_jet-requires-2 c =
-    let s : Stands c.args.state.now 1 c.jet_place-first.result = first c.args.state.now c.requires c.slice_known-1.given c.jet_place-first.ensures.0 c.head_jet.ensures c.first_head.ensures in
-    let t : Stands c.args.state.now 2 c.jet_place-second.result = second c.args.state.now c.requires c.slice_known-1.given c.jet_place-second.ensures.0 c.head_jet-2.ensures c.first_head-2.ensures in
+    let s = first c.args.state.now c.requires c.slice_known-1.given c.jet_place-first.ensures.0 c.head_jet.ensures c.first_head.ensures in
+    let t = second c.args.state.now c.requires c.slice_known-1.given c.jet_place-second.ensures.0 c.head_jet-2.ensures c.first_head-2.ensures in
     let still = second_stands s t c.update_jet.new.jet c.update_jet.auto.jet c.slice_known-2-1.given in
     (part_size still, second_short s t c.update_jet.new.jet c.update_jet.auto.jet c.requires)
 
 pub returns : goal.returns
 unfolding update_fields
 returns c =
-    let s : Stands c.args.state.now 1 c.jet_place-first.result = first c.args.state.now c.requires c.slice_known-1.given c.jet_place-first.ensures.0 c.head_jet.ensures c.first_head.ensures in
-    let t : Stands c.args.state.now 2 c.jet_place-second.result = second c.args.state.now c.requires c.slice_known-1.given c.jet_place-second.ensures.0 c.head_jet-2.ensures c.first_head-2.ensures in
+    let s = first c.args.state.now c.requires c.slice_known-1.given c.jet_place-first.ensures.0 c.head_jet.ensures c.first_head.ensures in
+    let t = second c.args.state.now c.requires c.slice_known-1.given c.jet_place-second.ensures.0 c.head_jet-2.ensures c.first_head-2.ensures in
     let all = counted s t c.positions-taken.ensures.0 c.positions.ensures.0 in
     let taken : c.positions-taken.result ≡ positions (first_of_head (printer_of c.args.state.now)) = rw (part_jet s) at c.positions-taken.ensures.0 in
     let text = c.args.text.now in
