@@ -1,18 +1,16 @@
 // The clock: a moment by value, whose tick hands back the next.
 ghost use Rattle.std.specs.Prelude.{◌≡◌};
-ghost use Rattle.calendar.specs.Clock.{clock_text, date, days_in, entries, is_date, is_leap, is_real, moment, month_entry, next_date, next_hour, next_minute, next_month, next_year, ones, previous_date, previous_month, previous_year, tens, tick};
+ghost use Rattle.calendar.specs.Clock.{clock_text, date, days_in, entries, is_date, is_leap, is_real, moment, month_entry, next_date, next_hour, next_minute, next_month, next_year, previous_date, previous_month, previous_year, tick, two};
 
-use content::byte::within;
-
-// Years are 0 to 99, for 2000 to 2099.
-#[derive(Clone, Copy)]
+// Years are 0 to 99, for 2000 to 2099. Neither date nor clock derives an order: their fields stand from the smallest part to the largest.
+#[derive(Clone, Copy, Debug, PartialEq, Eq)]
 pub struct Date {
     pub day: u8,
     pub month: u8,
     pub year: u8,
 }
 
-#[derive(Clone, Copy)]
+#[derive(Clone, Copy, Debug, PartialEq, Eq)]
 pub struct Clock {
     pub second: u8,
     pub minute: u8,
@@ -20,44 +18,24 @@ pub struct Clock {
     pub date: Date,
 }
 
-// The letters of the twelve months, three each.
-const MONTHS: [u8; 36] = *b"JANFEVMARAVRMAIJUNJUIAOUSEPOCTNOVDEC";
-
+#[tactic(auto, unfolding(crate::specs::Clock::is_leap))]
 fn is_leap(year: u8) -> bool
     ensures { result ≡ is_leap year }
 {
-    let y = 2000 + (year as u16);
-    if y % 4 != 0 {
-        return false;
-    }
-    if y % 100 != 0 {
-        return true;
-    }
-    y % 400 == 0
+    let y = 2000 + u16::from(year);
+    y % 4 == 0 && (y % 100 != 0 || y % 400 == 0)
 }
 
+#[tactic(auto, unfolding(crate::specs::Clock::days_in))]
 fn days_in(month: u8, year: u8) -> u8
     ensures { result ≡ days_in month year }
 {
-    if month == 2 {
-        if is_leap(year) {
-            return 29;
-        }
-        return 28;
+    match month {
+        2 if is_leap(year) => 29,
+        2 => 28,
+        4 | 6 | 9 | 11 => 30,
+        _ => 31,
     }
-    if month == 4 {
-        return 30;
-    }
-    if month == 6 {
-        return 30;
-    }
-    if month == 9 {
-        return 30;
-    }
-    if month == 11 {
-        return 30;
-    }
-    31
 }
 
 pub fn date_of(day: u8, month: u8, year: u8) -> Date
@@ -79,212 +57,193 @@ pub fn moment(second: u8, minute: u8, hour: u8, date: Date) -> Clock
 
 impl Date {
     // A day of the years 2000 to 2099.
+    #[tactic(auto, unfolding(crate::specs::Clock::is_date))]
     fn is_date(self) -> bool
         ensures { result ≡ is_date self }
     {
-        if self.month < 1 {
-            return false;
-        }
-        if 12 < self.month {
-            return false;
-        }
-        if self.day < 1 {
-            return false;
-        }
-        if days_in(self.month, self.year) < self.day {
-            return false;
-        }
-        self.year <= 99
+        (1..=12).contains(&self.month)
+            && (1..=days_in(self.month, self.year)).contains(&self.day)
+            && self.year <= 99
     }
 
+    #[tactic(auto, unfolding(crate::specs::Clock::next_year))]
     fn next_year(self) -> Date
         ensures { result ≡ next_year self }
     {
-        let year = self.year;
-        if year < 99 {
-            return date_of(1, 1, year + 1);
-        }
-        date_of(1, 1, 0)
+        let year = if self.year < 99 { self.year + 1 } else { 0 };
+        date_of(1, 1, year)
     }
 
+    #[tactic(auto, unfolding(crate::specs::Clock::next_month))]
     fn next_month(self) -> Date
         ensures { result ≡ next_month self }
     {
-        let month = self.month;
-        if month < 12 {
-            return date_of(1, month + 1, self.year);
+        if self.month < 12 {
+            date_of(1, self.month + 1, self.year)
+        } else {
+            self.next_year()
         }
-        self.next_year()
     }
 
     // The day after.
+    #[tactic(auto, unfolding(crate::specs::Clock::next_date))]
     fn next_date(self) -> Date
         ensures { result ≡ next_date self }
     {
-        let day = self.day;
-        if day < days_in(self.month, self.year) {
-            return date_of(day + 1, self.month, self.year);
+        if self.day < days_in(self.month, self.year) {
+            Date {
+                day: self.day + 1,
+                ..self
+            }
+        } else {
+            self.next_month()
         }
-        self.next_month()
     }
 
+    #[tactic(auto, unfolding(crate::specs::Clock::previous_year))]
     fn previous_year(self) -> Date
         ensures { result ≡ previous_year self }
     {
-        let year = self.year;
-        if 0 < year {
-            return date_of(31, 12, year - 1);
-        }
-        date_of(31, 12, 99)
+        let year = if 0 < self.year { self.year - 1 } else { 99 };
+        date_of(31, 12, year)
     }
 
+    #[tactic(auto, unfolding(crate::specs::Clock::previous_month))]
     fn previous_month(self) -> Date
         ensures { result ≡ previous_month self }
     {
-        let month = self.month;
-        let year = self.year;
+        let Date { month, year, .. } = self;
         if 1 < month {
-            return date_of(days_in(month - 1, year), month - 1, year);
+            date_of(days_in(month - 1, year), month - 1, year)
+        } else {
+            self.previous_year()
         }
-        self.previous_year()
     }
 
     // The day before.
+    #[tactic(auto, unfolding(crate::specs::Clock::previous_date))]
     pub(crate) fn previous_date(self) -> Date
         ensures { result ≡ previous_date self }
     {
-        let day = self.day;
-        if 1 < day {
-            return date_of(day - 1, self.month, self.year);
+        if 1 < self.day {
+            Date {
+                day: self.day - 1,
+                ..self
+            }
+        } else {
+            self.previous_month()
         }
-        self.previous_month()
     }
 }
 
 impl Clock {
     // A moment of the years 2000 to 2099.
+    #[tactic(auto, unfolding(crate::specs::Clock::is_real))]
     pub fn is_real(self) -> bool
         ensures { result ≡ is_real self }
     {
-        if 59 < self.second {
-            return false;
-        }
-        if 59 < self.minute {
-            return false;
-        }
-        if 23 < self.hour {
-            return false;
-        }
-        let date = self.date;
-        date.is_date()
+        self.second <= 59 && self.minute <= 59 && self.hour <= 23 && self.date.is_date()
     }
 
+    #[tactic(auto, unfolding(crate::specs::Clock::next_hour))]
     fn next_hour(self) -> Clock
         ensures { result ≡ next_hour self }
     {
-        let hour = self.hour;
-        let date = self.date;
-        if hour < 23 {
-            return moment(0, 0, hour + 1, date);
+        if self.hour < 23 {
+            moment(0, 0, self.hour + 1, self.date)
+        } else {
+            moment(0, 0, 0, self.date.next_date())
         }
-        moment(0, 0, 0, date.next_date())
     }
 
+    #[tactic(auto, unfolding(crate::specs::Clock::next_minute))]
     fn next_minute(self) -> Clock
         ensures { result ≡ next_minute self }
     {
-        let minute = self.minute;
-        let date = self.date;
-        if minute < 59 {
-            return moment(0, minute + 1, self.hour, date);
+        if self.minute < 59 {
+            Clock {
+                second: 0,
+                minute: self.minute + 1,
+                ..self
+            }
+        } else {
+            self.next_hour()
         }
-        self.next_hour()
     }
 
     // The moment one second later.
+    #[tactic(auto, unfolding(crate::specs::Clock::tick))]
     pub fn tick(self) -> Clock
         ensures { result ≡ tick self }
     {
-        let second = self.second;
-        let date = self.date;
-        if second < 59 {
-            return moment(second + 1, self.minute, self.hour, date);
+        if self.second < 59 {
+            Clock {
+                second: self.second + 1,
+                ..self
+            }
+        } else {
+            self.next_minute()
         }
-        self.next_minute()
     }
 }
 
-pub(crate) fn tens(n: u8) -> u8
-    ensures { result ≡ tens n }
+// The two digits of a number below 100.
+pub(crate) fn digits(n: u8) -> [u8; 2]
+    ensures { result ≡ two n }
 {
-    n / 10 % 10 + 0x30
-}
-
-pub(crate) fn ones(n: u8) -> u8
-    ensures { result ≡ ones n }
-{
-    n % 10 + 0x30
+    [n / 10 % 10 + 0x30, n % 10 + 0x30]
 }
 
 // The letters of a month; what is no month has no letters.
 fn month_entry(month: u8) -> [u8; 3]
     ensures { result ≡ month_entry month }
 {
-    if !within(1, 12, month) {
-        return [0; 3];
+    match month {
+        1 => *b"JAN",
+        2 => *b"FEV",
+        3 => *b"MAR",
+        4 => *b"AVR",
+        5 => *b"MAI",
+        6 => *b"JUN",
+        7 => *b"JUI",
+        8 => *b"AOU",
+        9 => *b"SEP",
+        10 => *b"OCT",
+        11 => *b"NOV",
+        12 => *b"DEC",
+        _ => [0; 3],
     }
-    let i = 3 * ((month as usize) - 1);
-    [MONTHS[i], MONTHS[i + 1], MONTHS[i + 2]]
 }
 
 // What the codes of date items stand for at a moment, code b at b - 55h.
+#[tactic(auto, unfolding(crate::specs::Clock::entries))]
 pub fn entries(c: Clock) -> [u8; 24]
     ensures { result ≡ entries c }
 {
-    let date = c.date;
-    let letters = month_entry(date.month);
-    let mut table = [0; 24];
-    table[0] = tens(c.hour);
-    table[1] = ones(c.hour);
-    table[3] = tens(c.minute);
-    table[4] = ones(c.minute);
-    table[6] = letters[0];
-    table[7] = letters[1];
-    table[8] = letters[2];
-    table[12] = tens(date.day);
-    table[13] = ones(date.day);
-    table
+    let [h10, h1] = digits(c.hour);
+    let [m10, m1] = digits(c.minute);
+    let [x, y, z] = month_entry(c.date.month);
+    let [d10, d1] = digits(c.date.day);
+    [
+        h10, h1, 0, m10, m1, 0, x, y, z, 0, 0, 0, d10, d1, 0, 0, 0, 0, 0, 0, 0, 0, 0, 0,
+    ]
 }
 
 // D6h's answer.
+#[tactic(auto, unfolding(crate::specs::Clock::clock_text))]
 pub fn clock_text(c: Clock) -> [u8; 22]
     ensures { result ≡ clock_text c }
 {
-    let date = c.date;
-    let letters = month_entry(date.month);
+    let [s10, s1] = digits(c.second);
+    let [m10, m1] = digits(c.minute);
+    let [h10, h1] = digits(c.hour);
+    let [d10, d1] = digits(c.date.day);
+    let [n10, n1] = digits(c.date.month);
+    let [x, y, z] = month_entry(c.date.month);
+    let [y10, y1] = digits(c.date.year);
     [
-        tens(c.second),
-        ones(c.second),
-        tens(c.minute),
-        ones(c.minute),
-        tens(c.hour),
-        ones(c.hour),
-        0x20,
-        0x20,
-        tens(date.day),
-        ones(date.day),
-        0x20,
-        0x20,
-        0x20,
-        0x20,
-        0x20,
-        tens(date.month),
-        ones(date.month),
-        letters[0],
-        letters[1],
-        letters[2],
-        tens(date.year),
-        ones(date.year),
+        s10, s1, m10, m1, h10, h1, 0x20, 0x20, d10, d1, 0x20, 0x20, 0x20, 0x20, 0x20, n10, n1, x,
+        y, z, y10, y1,
     ]
 }
 

@@ -2,10 +2,10 @@
 ghost use Rattle.std.specs.Prelude.{◌≡◌};
 ghost use Rattle.calendar.specs.DateChange.{change_text, is_before, is_time, printed, printed_date, time_of_day};
 
-use crate::clock::{Clock, Date, moment, ones, tens};
+use crate::clock::{Clock, Date, digits};
 
-// HHMM.
-#[derive(Clone, Copy)]
+// HHMM, in the order of the day.
+#[derive(Clone, Copy, Debug, PartialEq, Eq, PartialOrd, Ord)]
 pub struct TimeOfDay {
     pub hour: u8,
     pub minute: u8,
@@ -19,57 +19,51 @@ pub fn time_of_day(hour: u8, minute: u8) -> TimeOfDay
 
 impl TimeOfDay {
     // 00:00 to 23:59.
+    #[tactic(auto, unfolding(crate::specs::DateChange::is_time))]
     pub fn is_time(self) -> bool
         ensures { result ≡ is_time self }
     {
-        if 23 < self.hour {
-            return false;
-        }
-        self.minute <= 59
+        self.hour <= 23 && self.minute <= 59
     }
 
     // 52h's four digits.
+    #[tactic(auto, unfolding(crate::specs::DateChange::change_text))]
     pub fn change_text(self) -> [u8; 4]
         ensures { result ≡ change_text self }
     {
-        [
-            tens(self.hour),
-            ones(self.hour),
-            tens(self.minute),
-            ones(self.minute),
-        ]
+        let [h10, h1] = digits(self.hour);
+        let [m10, m1] = digits(self.minute);
+        [h10, h1, m10, m1]
     }
 }
 
 // Whether the clock stands before a time of day.
+#[tactic(auto, unfolding(crate::specs::DateChange::is_before))]
 fn is_before(clock: Clock, change: TimeOfDay) -> bool
     ensures { result ≡ is_before clock change }
 {
-    if clock.hour == change.hour {
-        return clock.minute < change.minute;
-    }
-    clock.hour < change.hour
+    time_of_day(clock.hour, clock.minute) < change
 }
 
 // The date that is printed.
+#[tactic(auto, unfolding(crate::specs::DateChange::printed_date))]
 fn printed_date(change: TimeOfDay, clock: Clock) -> Date
     ensures { result ≡ printed_date change clock }
 {
-    let date = clock.date;
     if is_before(clock, change) {
-        return date.previous_date();
+        clock.date.previous_date()
+    } else {
+        clock.date
     }
-    date
 }
 
 // The moment that date items stand for: the clock's time, and the date that is printed.
+#[tactic(auto, unfolding(crate::specs::DateChange::printed))]
 pub fn printed(change: TimeOfDay, clock: Clock) -> Clock
     ensures { result ≡ printed change clock }
 {
-    moment(
-        clock.second,
-        clock.minute,
-        clock.hour,
-        printed_date(change, clock),
-    )
+    Clock {
+        date: printed_date(change, clock),
+        ..clock
+    }
 }

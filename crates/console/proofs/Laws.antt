@@ -11,10 +11,10 @@ use lib.Dec.{eqb}
 use lib.ListN.{length, take, drop, length-drop}
 use lib.Seq.{take-append_seam, take_all}
 use Rattle.frame.specs.declared.given.Given.{Given}
-use Rattle.frame.specs.declared.given.Where.{Where}
+use Rattle.frame.specs.Given.{given_in}
+use Rattle.frame.specs.declared.given.Refusal.{Refusal}
+use Rattle.frame.specs.declared.given.Refusal.TheVariants.{BadState, ShortBuffer, NotWhole, TooLong, WrongCheck, UnknownIdentifier, WrongLength, NoSuchJet, NoSuchMessage, BadParameters, NoContent, NoRoom, Missing, WrongCount, NoPosition, NoCharacter, NoSuchType, NoSuchMoment}
 use Rattle.line.specs.Line.{given_text, line, lined, bytes_of, longest_given, Writes}
-use Rattle.line.specs.declared.Lined.{Lined}
-use Rattle.line.specs.declared.Lined.TheVariants.{Short, Written}
 use Rattle.line.proofs.Laws.{length_line, front_fits}
 use Rattle.calendar.specs.Clock.{date, moment}
 use Rattle.printer.specs.State.{state_size}
@@ -25,12 +25,13 @@ use Rattle.printer.specs.Demands.{Call, hand_in, after, after_all, full}
 use Rattle.printer.specs.declared.answer.Answered.{Answered}
 use Rattle.printer.proofs.Accepting.{room_enough}
 use Rattle.printer.proofs.OutcomeLaws.{answer_fits, consumes_handed_in, refusal_keeps}
-use Rattle.console.specs.Console.{line_of, line_size, Stand, first_stand, left, next, onward, start_state, start_store, Walks, begins, goes_on, Starts, Turns, Runs}
+use Rattle.console.specs.Console.{line_of, line_size, sized, Stand, first_stand, left, next, onward, start_state, start_store, Walks, begins, goes_on, Starts, Turns, Runs}
+use Rattle.std.specs.Prelude.{Option, Some, None, Result, Ok, Err}
 use Rattle.console.specs.declared.Turn.{Turn}
 use Rattle.console.proofs.Consuming.{next_takes}
 
 -- ---- The start.
-pub starts : (m : List ℕ) (r : ℕ) (m' : List ℕ) → Freshens m 1 (moment 58 59 23 (date 29 2 24)) r m' → Starts m m'
+pub starts : (m : List ℕ) (r : Given) (m' : List ℕ) → Freshens m 1 (moment 58 59 23 (date 29 2 24)) r m' → Starts m m'
 starts m r m' f =
     record {
       state = λ e. rw (eq-eqb (length m) state_size e) at f.state;
@@ -62,84 +63,103 @@ answer_taken {o} {answer = answer} {r = r} {answer' = answer'} p =
     ∙ ap (λ (l : List ℕ). take (length o.answer) l) p.answer_bytes
     ∙ take-append_seam o.answer (drop (length o.answer) answer)
 
+-- Number 3 is that of what is not whole, and of nothing else.
+three_waits : (x : Result (Unit {0}) Refusal) → (given_in x).number ≡ 3 → x ≡ Err NotWhole
+three_waits (Ok u) e = absurd (omega arith)
+three_waits (Err NotWhole) e = refl
+three_waits (Err BadState) e = absurd (omega arith)
+three_waits (Err ShortBuffer) e = absurd (omega arith)
+three_waits (Err TooLong) e = absurd (omega arith)
+three_waits (Err WrongCheck) e = absurd (omega arith)
+three_waits (Err UnknownIdentifier) e = absurd (omega arith)
+three_waits (Err WrongLength) e = absurd (omega arith)
+three_waits (Err NoSuchJet) e = absurd (omega arith)
+three_waits (Err NoSuchMessage) e = absurd (omega arith)
+three_waits (Err BadParameters) e = absurd (omega arith)
+three_waits (Err NoRoom) e = absurd (omega arith)
+three_waits (Err Missing) e = absurd (omega arith)
+three_waits (Err WrongCount) e = absurd (omega arith)
+three_waits (Err NoSuchType) e = absurd (omega arith)
+three_waits (Err NoSuchMoment) e = absurd (omega arith)
+three_waits (Err (NoContent i)) e = absurd (omega arith)
+three_waits (Err (NoPosition i)) e = absurd (omega arith)
+three_waits (Err (NoCharacter i)) e = absurd (omega arith)
+
 -- Number 3: no line.
 pub waits : {m store s answer strips : List ℕ} {r : Answered} {m' store' answer' strips' : List ℕ} (text : List ℕ)
     → Fulfils (outcome m (full store s)) m store answer strips r m' store' answer' strips'
-    → r.number ≡ 3 → Turns m store s text (record { size = 0; consumed = r.consumed }) m' store' text
+    → r.outcome ≡ Err NotWhole → Turns m store s text (record { size = None; consumed = r.consumed }) m' store' text
 waits {m} {store} {s} text f e =
     let o : Outcome = outcome m (full store s) in
     let p = f.meets in
-    let none : [] ≡ line_of o = sym (no_line o (sym p.gives ∙ e)) in
+    let three : o.number ≡ 3 = ap (λ (g : Given). g.number) (sym p.gives) ∙ ap (λ (x : Result (Unit {0}) Refusal). (given_in x).number) e in
+    let none : [] ≡ line_of o = sym (no_line o three) in
     record {
-      size = ap length none;
+      size = ap sized none;
       consumed = p.consumes;
       state = p.leaves;
       stores = f.stores;
       line = ap (λ (l : List ℕ). l ++ drop (length l) text) none;
     }
 
--- What is given, as it is handed back.
-abbrev back : Answered → Given
-back r = record { number = r.number; place = r.place }
-
-given_back : (x : Handed) {m answer strips : List ℕ} {r : Answered} {m' answer' strips' : List ℕ} → Meets (outcome m x) m answer strips r m' answer' strips' → back r ≡ given_by (outcome m x)
-given_back x p = ap₂ (λ (n : ℕ) (w : Where). record { number = n; place = w }) p.gives p.places
-
 -- Every line has its room.
 longest_line : (g : Given) (answer : List ℕ) → length (given_text g) ≤ longest_given → length answer ≤ 554 → length (line g answer) ≤ line_size
 longest_line g answer z h = omega (arith, length_line g answer, z, h)
 
-lined_there : (room : ℕ) (g : Given) (answer : List ℕ) → length (line g answer) ≤ room → lined room g answer ≡ Written (length (line g answer))
+lined_there : (room : ℕ) (g : Given) (answer : List ℕ) → length (line g answer) ≤ room → lined room g answer ≡ Some (length (line g answer))
 unfolding lined
 lined_there room g answer h = rw (le-ltb room (length (line g answer)) h)
 
-size_there : (n k : ℕ) → Written n ≡ Written k → n ≡ k
-size_there n k e = ap size_of e
-  where
-    size_of : Lined → ℕ
-    size_of Short = 0
-    size_of (Written i) = i
-
-short_never : (k : ℕ) → Short ≡ Written k → ⊥
-short_never k e = subst there (sym e) tt
-  where
-    there : Lined → Type 0
-    there Short = ⊥
-    there (Written i) = Unit {0}
-
 -- Another number: its line.
-pub answered : (x : Handed) {m answer strips : List ℕ} {r : Answered} {m' answer' strips' : List ℕ} {text text' : List ℕ} {l : Lined}
+answered : (x : Handed) {m answer strips : List ℕ} {r : Answered} {m' answer' strips' : List ℕ} {text text' : List ℕ} {l : Option ℕ}
     → Meets (outcome m x) m answer strips r m' answer' strips' → line_size ≤ length text
-    → Writes text (back r) (take r.answer answer') l text' → l ≡ Written (length (line (given_by (outcome m x)) (outcome m x).answer))
+    → Writes text (given_in r.outcome) (take r.answer answer') l text' → l ≡ Some (length (line (given_by (outcome m x)) (outcome m x).answer))
 answered x {m} {r = r} {text = text} p h w =
     let o : Outcome = outcome m x in
     w.answered
-    ∙ ap (lined (length text) (back r)) (answer_taken p)
-    ∙ lined_there (length text) (back r) o.answer (omega (arith, longest_line (back r) o.answer w.short (answer_fits m x)))
-    ∙ ap (λ (g : Given). Written (length (line g o.answer))) (given_back x p)
+    ∙ ap (lined (length text) (given_in r.outcome)) (answer_taken p)
+    ∙ lined_there (length text) (given_in r.outcome) o.answer (omega (arith, longest_line (given_in r.outcome) o.answer w.short (answer_fits m x)))
+    ∙ ap (λ (g : Given). Some (length (line g o.answer))) p.gives
 
-pub never_short : (x : Handed) {m answer strips : List ℕ} {r : Answered} {m' answer' strips' : List ℕ} {text text' : List ℕ} {l : Lined} {A : Type 0}
-    → Meets (outcome m x) m answer strips r m' answer' strips' → line_size ≤ length text
-    → Writes text (back r) (take r.answer answer') l text' → l ≡ Short → A
-never_short x p h w e = absurd (short_never _ (sym e ∙ answered x p h w))
+-- How long a line is, where there is one.
+sized_there : (l : List ℕ) → 1 ≤ length l → sized l ≡ Some (length l)
+sized_there [] h = absurd (omega arith)
+sized_there (b ∷ l) h = refl
 
-pub turns : {m store s answer strips : List ℕ} {r : Answered} {m' store' answer' strips' : List ℕ} {text text' : List ℕ} {l : Lined} (n : ℕ)
+none_never : {n : ℕ} → None ≡ Some n → ⊥
+none_never {n} e = subst there e tt
+  where
+    there : Option ℕ → Type 0
+    there None = Unit {0}
+    there (Some i) = ⊥
+
+no_size : (l : List ℕ) → None ≡ sized l → length l ≡ 0
+no_size [] e = refl
+no_size (b ∷ l) e = absurd (none_never e)
+
+pub turns : {m store s answer strips : List ℕ} {r : Answered} {m' store' answer' strips' : List ℕ} {text text' : List ℕ} {l : Option ℕ}
     → Fulfils (outcome m (full store s)) m store answer strips r m' store' answer' strips' → line_size ≤ length text
-    → Writes text (back r) (take r.answer answer') l text' → (r.number ≡ 3 → ⊥) → l ≡ Written n
-    → Turns m store s text (record { size = n; consumed = r.consumed }) m' store' text'
-turns {m} {store} {s} {r = r} {answer' = answer'} {text = text} {text' = text'} n f h w z e =
+    → Writes text (given_in r.outcome) (take r.answer answer') l text' → (r.outcome ≡ Err NotWhole → ⊥)
+    → Turns m store s text (record { size = l; consumed = r.consumed }) m' store' text'
+turns {m} {store} {s} {r = r} {answer' = answer'} {text = text} {text' = text'} {l = l} f h w z =
     let o : Outcome = outcome m (full store s) in
     let p = f.meets in
-    let its : line (given_by o) o.answer ≡ line_of o = sym (a_line o (λ t. z (p.gives ∙ t))) in
-    let same : line (back r) (take r.answer answer') ≡ line_of o = ap₂ line (given_back (full store s) p) (answer_taken p) ∙ its in
+    let its : line (given_by o) o.answer ≡ line_of o =
+    sym (a_line o (λ t. z (three_waits r.outcome (ap (λ (g : Given). g.number) p.gives ∙ t))))
+    in
+    let same : line (given_in r.outcome) (take r.answer answer') ≡ line_of o = ap₂ line p.gives (answer_taken p) ∙ its in
+    let e : l ≡ Some (length (line (given_by o) o.answer)) = answered (full store s) p h w in
     record {
-      size = size_there n _ (sym e ∙ answered (full store s) p h w) ∙ ap length its;
+      size =
+          e
+          ∙ sym (sized_there (line (given_by o) o.answer) (omega (arith, length_line (given_by o) o.answer)))
+          ∙ ap sized its;
       consumed = p.consumes;
       state = p.leaves;
       stores = f.stores;
       line =
           w.buffer
-          ∙ ap (λ (q : Lined). bytes_of q (back r) (take r.answer answer') ++ drop (length (bytes_of q (back r) (take r.answer answer'))) text) e
+          ∙ ap (λ (q : Option ℕ). bytes_of q (given_in r.outcome) (take r.answer answer') ++ drop (length (bytes_of q (given_in r.outcome) (take r.answer answer'))) text) e
           ∙ ap (λ (x : List ℕ). x ++ drop (length x) text) same;
     }
 
@@ -182,13 +202,13 @@ module _ {s m store : List ℕ} {place : ℕ} (a : At s m store place) where
   next_there = rw (a.state, a.stores, a.here)
 
   module _ {text m' store' text' : List ℕ} {r : Turn} (t : Turns m store (drop place s) text r m' store' text') where
-    heard : (r.size ≡ 0 → ⊥) → (next s a.stand).number ≡ 3 → ⊥
+    heard : {n : ℕ} → r.size ≡ Some n → (next s a.stand).number ≡ 3 → ⊥
     heard z e =
         let o : Outcome = outcome m (full store (drop place s)) in
         let three : o.number ≡ 3 = ap (λ (x : Outcome). x.number) next_there ∙ e in
-        z (t.size ∙ ap length (no_line o three))
+        none_never (sym (t.size ∙ ap sized (no_line o three)) ∙ z)
 
-    pub goes : place < length s → (r.size ≡ 0 → ⊥) → At s m' store' (place + r.consumed)
+    pub goes : {n : ℕ} → place < length s → r.size ≡ Some n → At s m' store' (place + r.consumed)
     goes h z =
         let w : Stand = a.stand in
         let call : Call = hand_in (left s w) in
@@ -200,10 +220,10 @@ module _ {s m store : List ℕ} {place : ℕ} (a : At s m store place) where
           stores = t.stores ∙ ap₂ (λ (x : Outcome) (l : List ℕ). store_after x.store l) next_there a.stores;
         }
 
-    pub stops : r.size ≡ 0 → Runs s (record { place = place; written = true }) m' store'
+    pub stops : r.size ≡ None → Runs s (Ok place) m' store'
     stops z =
         let o : Outcome = outcome m (full store (drop place s)) in
-        let three : o.number ≡ 3 = waiting o (sym t.size ∙ z) in
+        let three : o.number ≡ 3 = waiting o (no_size (line_of o) (sym z ∙ t.size)) in
         record {
           stand = a.stand;
           walked = a.walked;
@@ -214,15 +234,15 @@ module _ {s m store : List ℕ} {place : ℕ} (a : At s m store place) where
         }
 
     -- A call that has a line consumes something.
-    pub moves : place < length s → (r.size ≡ 0 → ⊥) → 1 ≤ r.consumed
+    pub moves : {n : ℕ} → place < length s → r.size ≡ Some n → 1 ≤ r.consumed
     moves h z =
         subst (λ (n : ℕ). 1 ≤ n) (sym (t.consumed ∙ ap (λ (x : Outcome). x.consumed) next_there))
         (next_takes s a.stand a.walked (subst (λ (n : ℕ). n < length s) a.here h) (heard z))
 
-  pub fails : Runs s (record { place = place; written = false }) m store
+  pub fails : Runs s (Err place) m store
   fails = record { stand = a.stand; walked = a.walked; place = a.here; state = a.state; stores = a.stores; ended = λ e. absurd (false≢true e) }
 
-  pub ends : length s ≤ place → Runs s (record { place = place; written = true }) m store
+  pub ends : length s ≤ place → Runs s (Ok place) m store
   ends h = record { stand = a.stand; walked = a.walked; place = a.here; state = a.state; stores = a.stores; ended = λ _. inl (rw (sym a.here) h) }
 
 -- The bytes that are left, as they are lent.
@@ -234,9 +254,6 @@ pub turned : (place : ℕ) {m store : List ℕ} (s : List ℕ) {text : List ℕ}
     → Turns m store (mid_of place (length s - place) s) text r m' store' text' → Turns m store (drop place s) text r m' store' text'
 turned place {m} {store} s {text} {r} {m'} {store'} {text'} t = subst (λ (l : List ℕ). Turns m store l text r m' store' text') (rest_lent place s) t
 
--- What a line leaves of its buffer, and what a call consumes, lie inside.
-pub line_inside : {m store s text m' store' text' : List ℕ} {r : Turn} → Turns m store s text r m' store' text' → r.size ≤ length text'
-line_inside {m} {store} {s} {text} {text' = text'} {r = r} t = front_fits (line_of (outcome m (full store s))) text text' r.size t.size t.line
-
+-- What a call consumes lies inside.
 pub consumed_inside : (s : List ℕ) (place : ℕ) {m store text m' store' text' : List ℕ} {r : Turn} → Turns m store (drop place s) text r m' store' text' → place ≤ length s → place + r.consumed ≤ length s
 consumed_inside s place {m} {store} t h = omega (arith, t.consumed, consumes_handed_in m (full store (drop place s)), length-drop place s)

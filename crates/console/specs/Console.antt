@@ -1,5 +1,5 @@
 -- The console program of document 01, over the rules of the box and of a line.
-use Rattle.std.specs.Prelude.{ℕ, ◌+◌, ◌<◌, ◌≤◌, Bool, true, false, List, [], ◌∷◌, ◌++◌, ◌⊎◌, ◌≡◌, eqb, length, drop, replicate}
+use Rattle.std.specs.Prelude.{ℕ, ◌+◌, ◌<◌, ◌≤◌, Bool, true, false, List, [], ◌∷◌, ◌++◌, ◌⊎◌, ◌≡◌, Option, Some, None, Result, Ok, Err, IsOk, eqb, length, drop, replicate}
 use Rattle.line.specs.Line.{line}
 use Rattle.calendar.specs.Clock.{date, moment}
 use Rattle.printer.specs.State.{bytes_of, state_size}
@@ -8,7 +8,6 @@ use Rattle.printer.specs.Order.{store_after}
 use Rattle.printer.specs.Receive.{Handed, Outcome, given_by, outcome, kept}
 use Rattle.printer.specs.Demands.{Call, hand_in, after_all, full}
 use Rattle.console.specs.declared.Turn.{Turn}
-use Rattle.console.specs.declared.Ran.{Ran}
 
 -- 01, Samples, the last paragraph: "The console program starts a fresh type 1 at 29 February 2024 23:59:58".
 abbrev pub start_state : List ℕ
@@ -26,6 +25,11 @@ shown false l = l
 
 abbrev pub line_of : Outcome → List ℕ
 line_of o = shown (eqb o.number 3) (line (given_by o) o.answer)
+
+-- How long it is, where there is one.
+abbrev pub sized : List ℕ → Option ℕ
+sized [] = None
+sized (b ∷ l) = Some (length (b ∷ l))
 
 -- A number of up to three digits, a colon, a place of up to twenty, a space, the longest answer's 554 bytes in hex, a newline.
 abbrev pub line_size : ℕ
@@ -70,18 +74,23 @@ pub record Starts (m m' : List ℕ) : Type 0 where
 
 -- The contract of `call`: how long the line is that lies over the text's front, and what the box consumed and left.
 pub record Turns (m store s text : List ℕ) (r : Turn) (m' store' text' : List ℕ) : Type 0 where
-  pub size : r.size ≡ length (line_of (outcome m (full store s)))
+  pub size : r.size ≡ sized (line_of (outcome m (full store s)))
   pub consumed : r.consumed ≡ (outcome m (full store s)).consumed
   pub state : m' ≡ kept (outcome m (full store s)) m
   pub stores : store' ≡ store_after (outcome m (full store s)).store store
   pub line : text' ≡ line_of (outcome m (full store s)) ++ drop (length (line_of (outcome m (full store s)))) text
 
+-- The place that was come to, whether or not a write failed.
+abbrev pub place_of : Result ℕ ℕ → ℕ
+place_of (Ok place) = place
+place_of (Err place) = place
+
 -- The contract of `run`: the place was walked to, state and store are those behind the walk's calls, and unless a write failed nothing
 -- follows.
-pub record Runs (s : List ℕ) (r : Ran) (m' store' : List ℕ) : Type 0 where
+pub record Runs (s : List ℕ) (r : Result ℕ ℕ) (m' store' : List ℕ) : Type 0 where
   pub stand : Stand
   pub walked : Walks s stand
-  pub place : r.place ≡ stand.place
+  pub place : place_of r ≡ stand.place
   pub state : m' ≡ after_all start_state stand.calls
   pub stores : store' ≡ stand.store
-  pub ended : r.written ≡ true → Ended s stand
+  pub ended : IsOk r → Ended s stand

@@ -5,9 +5,9 @@ ghost use Rattle.std.specs.Prelude.{◌≤◌, length, ◌≡◌};
 ghost use Rattle.console.specs.Console.{line_size, Runs, start_state, start_store, Starts, Turns};
 
 use calendar::clock::{Clock, Date};
-use frame::given::Given;
+use frame::given::{Given, Refusal};
 use library::store::STORE;
-use line::{Lined, write_line};
+use line::write_line;
 use printer::answer::{ANSWER, STRIPS};
 use printer::call::fresh;
 use printer::receive::receive;
@@ -20,7 +20,7 @@ const LINE: usize = 1134;
 fn start(state: &mut [u8])
     ensures { Starts state.old state.new }
 {
-    fresh(
+    let _ = fresh(
         state,
         1,
         Clock {
@@ -36,10 +36,10 @@ fn start(state: &mut [u8])
     );
 }
 
-// What a call did: how long its line is, 0 where it has none, and how many bytes it consumed.
+// What a call did: how long its line is, where it has one, and how many bytes it consumed.
 #[derive(Drop)]
 struct Turn {
-    size: usize,
+    size: Option<usize>,
     consumed: usize,
 }
 
@@ -52,56 +52,35 @@ fn call(state: &mut [u8], store: &mut [u8], s: &[u8], text: &mut [u8]) -> Turn
     let mut strips = [0; STRIPS];
     let done = receive(state, store, s, &mut answer, &mut strips);
     let consumed = done.consumed;
-    let number = done.number;
-    if number == 3 {
-        return Turn { size: 0, consumed };
+    if done.outcome == Err(Refusal::NotWhole) {
+        return Turn {
+            size: None,
+            consumed,
+        };
     }
-    let place = done.place;
-    let n = done.answer;
-    let lined = write_line(text, Given { number, place }, &answer[..n]);
-    match lined {
-        Lined::Short => Turn { size: 0, consumed },
-        Lined::Written(size) => Turn { size, consumed },
-    }
+    let size = write_line(text, Given::from(done.outcome), &answer[..done.answer]);
+    Turn { size, consumed }
 }
 
-// The place in the bytes that was come to, and whether every line was written.
-#[derive(Drop)]
-struct Ran {
-    place: usize,
-    written: bool,
-}
-
-// Calls until the box waits for more or no bytes are left. A failed write ends it too: the program then ends without the rest of its lines, and with status 0.
-fn run(state: &mut [u8], store: &mut [u8], s: &[u8]) -> Ran
+// Calls until the box waits for more or no bytes are left, and gives the place that was come to. A failed write ends it too, with that place as its error: the program then ends without the rest of its lines, and with status 0.
+fn run(state: &mut [u8], store: &mut [u8], s: &[u8]) -> Result<usize, usize>
     requires { (state.old ≡ start_state) × (store.old ≡ start_store) }
     ensures { Runs s.now result state.new store.new }
 {
-    let mut space = [0; LINE];
-    let text: &mut [u8] = &mut space;
+    let mut text = [0; LINE];
+    // A loop over a place: each turn itself says how far it goes, and the contract speaks of the place.
     let mut at = 0;
     while at < s.len() {
-        let turn = call(state, store, &s[at..], text);
-        let size = turn.size;
-        if size == 0 {
-            return Ran {
-                place: at,
-                written: true,
-            };
-        }
-        let consumed = turn.consumed;
-        at += consumed;
+        let turn = call(state, store, &s[at..], &mut text);
+        let Some(size) = turn.size else {
+            return Ok(at);
+        };
+        at += turn.consumed;
         if !io::write_all(1, &text[..size]) {
-            return Ran {
-                place: at,
-                written: false,
-            };
+            return Err(at);
         }
     }
-    Ran {
-        place: at,
-        written: true,
-    }
+    Ok(at)
 }
 
 fn main() {
@@ -110,5 +89,5 @@ fn main() {
     let mut state = [0; STATE];
     start(&mut state);
     let mut store = [0; STORE];
-    run(&mut state, &mut store, &input[..n]);
+    let _ = run(&mut state, &mut store, &input[..n]);
 }

@@ -5,6 +5,7 @@ use mathlib.Core.Bool.{true, false}
 use mathlib.Core.List.{List, [], ◌∷◌, ◌++◌, append-nil}
 use mathlib.Core.Path.{◌≡◌, refl, sym, ap, ◌∙◌}
 use native.Mathlib.Nat.{add-zero, suc-add, zero-add}
+use Rattle.std.specs.Prelude.{Err}
 use native.Mathlib.Omega.{arith}
 use borrow.Author.Tests.{eq-eqb, eqb-true}
 use lib.Dec.{eqb}
@@ -12,19 +13,15 @@ use lib.ListN.{length, take, drop, get_or, length-append, length-take, length-dr
 use lib.Seq.{drop-nil, length-take-le, get_or-append-add, get_or-take, get_or-drop}
 use Rattle.content.specs.Byte.{is_character, all_characters}
 use Rattle.content.specs.Machine.{Mode, start, step}
-use Rattle.content.specs.Content.{is_content, verdict}
+use Rattle.content.specs.Content.{good, is_content, verdict}
 use Rattle.content.specs.Position.{at_fields, marks, mark_of, is_position, is_field_position, field_positions, field_positions_from}
-use Rattle.content.specs.Edit.{addressed, edit_tests, edited, replaced}
+use Rattle.content.specs.Edit.{done, addressed, edit_tests, edited, replaced}
 use Rattle.content.specs.Marks.{tree_letters}
 use Rattle.content.specs.Update.{laid, update_tests, updated}
 use Rattle.content.specs.ChangeLaws.{Changed, none, kept, changed, Kept, ChangeKeeps, EditChanges, EditStaysContent, EditLands, EditAddresses, EditElsewhere, UpdateChanges, UpdateStaysContent, UpdateTaken, UpdateLands, UpdateLetters, UpdateElsewhere, MarksOfContent, PositionsOfContent, RefusedEditLeaves, RefusedUpdateLeaves, EditKeepsLength, UpdateKeepsLength}
 use Rattle.content.specs.Tree.{tree_of}
 use Rattle.content.specs.declared.position.Mark.{Mark}
 use Rattle.content.specs.declared.position.Mark.TheVariants.{Structure, Character, FieldCharacter}
-use Rattle.content.specs.declared.edit.Edited.TheVariants.{Done, Refused}
-use Rattle.content.specs.declared.test.Verdict.TheVariants.{Good}
-use Rattle.content.specs.declared.update.Updated.TheVariants as update
-use Rattle.content.specs.declared.update.Updated.TheVariants.{Laid}
 use Rattle.frame.proofs.Ground.{accepted_all, never, both_true, checked_refuses, pick_case}
 use Rattle.content.proofs.Changes.{length_same, marks_same, no_structure, positions_same, read_same, rest_alike}
 use Rattle.content.proofs.Laws.{correct, field_positions_from_tree, letters_from_tree, marks_from_tree}
@@ -33,13 +30,13 @@ pub refused_edit_leaves : RefusedEditLeaves
 unfolding edited
 refused_edit_leaves s address symbols e =
     let r = checked_refuses (edit_tests s address symbols) e in
-    rw (r.gives Refused Done)
+    rw (r.gives (λ g. Err g) done)
 
 pub refused_update_leaves : RefusedUpdateLeaves
 unfolding updated
 refused_update_leaves s text e =
     let r = checked_refuses (update_tests (field_positions s) text) e in
-    rw (r.gives update.Refused Laid)
+    rw (r.gives (λ g. Err g) done)
 
 pub marks_of_content : MarksOfContent
 marks_of_content s e = let t = correct s e in rw t.1 at (marks_from_tree (tree_of s) t.0)
@@ -47,7 +44,7 @@ marks_of_content s e = let t = correct s e in rw t.1 at (marks_from_tree (tree_o
 pub positions_of_content : PositionsOfContent
 positions_of_content s e = let t = correct s e in rw t.1 at (field_positions_from_tree (tree_of s) t.0)
 
-letters_of_content : (s : List ℕ) → verdict s ≡ Good → at_fields start s ≡ tree_letters (tree_of s)
+letters_of_content : (s : List ℕ) → verdict s ≡ good → at_fields start s ≡ tree_letters (tree_of s)
 letters_of_content s e = let t = correct s e in rw t.1 at (letters_from_tree (tree_of s) t.0)
 
 pub change_keeps : ChangeKeeps
@@ -91,11 +88,11 @@ replaced_changes m (b ∷ s) (suc a) symbols p q = rw suc-add (kept (replaced_ch
 
 -- What the tests of an accepted edit came to.
 edit_tells :
-    (s : List ℕ) (address : ℕ) (symbols : List ℕ) → edited s address symbols ≡ Done →
+    (s : List ℕ) (address : ℕ) (symbols : List ℕ) → edited s address symbols ≡ done →
     (addressed symbols (drop address (marks start s)) ≡ true) × (all_characters symbols ≡ true)
 unfolding edited
 edit_tells s address symbols e =
-    let h = both_true (addressed symbols (drop address (marks start s))) _ (accepted_all (edit_tests s address symbols) Refused Done (λ g q. never (cc)) e) in
+    let h = both_true (addressed symbols (drop address (marks start s))) _ (accepted_all (edit_tests s address symbols) (λ g. Err g) done (λ g q. never (cc)) e) in
     (h.0, (both_true (all_characters symbols) true h.1).0)
 
 pub edit_changes : EditChanges
@@ -185,13 +182,13 @@ pub update_stays_content : UpdateStaysContent
 update_stays_content s text c e = stays_content s _ (update_changes s text e) c
 
 -- What the tests of an update came to, both ways.
-pub update_tells : (s text : List ℕ) → updated s text ≡ Laid → (length text ≡ field_positions s) × (all_characters text ≡ true)
+pub update_tells : (s text : List ℕ) → updated s text ≡ done → (length text ≡ field_positions s) × (all_characters text ≡ true)
 unfolding updated
 update_tells s text e =
-    let h = both_true (eqb (length text) (field_positions s)) _ (accepted_all (update_tests (field_positions s) text) update.Refused Laid (λ g q. never (cc)) e) in
+    let h = both_true (eqb (length text) (field_positions s)) _ (accepted_all (update_tests (field_positions s) text) (λ g. Err g) done (λ g q. never (cc)) e) in
     (eqb-true (length text) (field_positions s) h.0, (both_true (all_characters text) true h.1).0)
 
-pub update_taken_where : (s text : List ℕ) → length text ≡ field_positions s → all_characters text ≡ true → updated s text ≡ Laid
+pub update_taken_where : (s text : List ℕ) → length text ≡ field_positions s → all_characters text ≡ true → updated s text ≡ done
 unfolding updated
 update_taken_where s text n c = rw (eq-eqb (length text) (field_positions s) n, c)
 

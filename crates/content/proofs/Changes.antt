@@ -4,6 +4,7 @@ use Prim.Native.Nat.{ℕ, suc, ◌+◌}
 use mathlib.Core.Bool.{Bool, true, false}
 use mathlib.Core.List.{List, ◌∷◌, map}
 use mathlib.Core.Path.{◌≡◌, refl, ap, ◌∙◌}
+use Rattle.std.specs.Prelude.{None, Option, Some}
 use native.Mathlib.Omega.{arith}
 use lib.Dec.{eqb}
 use lib.ListN.{length}
@@ -19,8 +20,7 @@ use Rattle.content.specs.Laws.{CharactersAreNoStructure}
 use Rattle.content.specs.ChangeLaws.{Changed, none, kept, changed}
 use Rattle.content.specs.declared.byte.Kind.{Kind}
 use Rattle.content.specs.declared.byte.Kind.TheVariants as kind
-use Rattle.content.specs.declared.byte.Coded.{Coded}
-use Rattle.content.specs.declared.byte.Coded.TheVariants as coded
+use Rattle.content.specs.declared.byte.Code.{Code}
 use Rattle.content.specs.declared.item.Place.TheVariants as place
 use Rattle.content.specs.declared.item.Seen.{Seen}
 use Rattle.content.specs.declared.position.Mark.TheVariants.{Structure}
@@ -156,9 +156,9 @@ kind_alike kind.Expansion b seen h = block_alike h b
 kind_alike kind.Character b seen h = item_alike h (character b) (character b) refl
 kind_alike kind.Other b seen h = with_letters h h.letters
 
-code_alike : (c : Coded) (seen : Seen) {q r : Rest} → Alike (in_code c seen) q r → q.letters ≡ r.letters
-code_alike (coded.Code c) seen h = h.letters
-code_alike coded.Not seen h = h.letters
+code_alike : (c : Option Code) (seen : Seen) {q r : Rest} → Alike (in_code c seen) q r → q.letters ≡ r.letters
+code_alike (Some c) seen h = h.letters
+code_alike None seen h = h.letters
 
 before_alike : (m : Mode) (b : ℕ) {q r : Rest} → Alike (step m b) q r → Alike m (before m b q) (before m b r)
 before_alike (Reading (machine.Inside place.Content) seen) b h = line_alike h

@@ -1,4 +1,4 @@
--- The reader says `Unfit i` exactly where the grammar does: `Bad` is led out of by no bytes, and from every other mode behind a byte a few
+-- The reader says `Err i` exactly where the grammar does: `Bad` is led out of by no bytes, and from every other mode behind a byte a few
 -- bytes lead to the end.
 use Prim.Native.Nat.{ℕ, zero, suc, ◌+◌, ◌≤◌, ◌<◌}
 use mathlib.Core.Bool.{Bool, true, false}
@@ -6,6 +6,7 @@ use mathlib.Core.List.{List, [], ◌∷◌, ◌++◌}
 use mathlib.Core.Logic.{◌⊎◌, inl, inr}
 use mathlib.Core.Path.{◌≡◌, refl, sym, ◌∙◌, ap, subst}
 use native.Mathlib.Numerals.{add-one}
+use Rattle.std.specs.Prelude.{Err, None, Option, Some}
 use native.Mathlib.Omega.{arith}
 use borrow.Author.Tests.{ltb-true, ltb-false}
 use lib.Dec.{eqb, ltb}
@@ -14,18 +15,16 @@ use lib.Seq.{take-length, take-suc, length-take-le}
 use Rattle.frame.specs.Ground.{pick}
 use Rattle.frame.proofs.Ground.{pick_case, drop_next}
 use Rattle.content.specs.Byte.{is_character, is_expansion, is_count, kind_of, code_of}
-use Rattle.content.specs.Content.{verdict, read, ended, onward}
+use Rattle.content.specs.Content.{good, verdict, read, ended, onward}
 use Rattle.content.specs.Grammar.{encode}
 use Rattle.content.specs.Hopeless.{Begins, Hopeless, FirstHopeless, StopsEarly, GoesWrong, UnfitThere}
 use Rattle.content.specs.Machine.{Inside, Font, TabulationCount, TabulationEnd, CounterNumber, CounterEnd, Mode, Reading, Done, Bad, start, step, with_line, with_field, in_block, in_code, most_lines, most_fields}
 use Rattle.content.specs.Tree.{tree_of}
-use Rattle.content.specs.declared.byte.Coded.{Coded}
-use Rattle.content.specs.declared.byte.Coded.TheVariants as coded
+use Rattle.content.specs.declared.byte.Code.{Code}
 use Rattle.content.specs.declared.byte.Kind.{Kind}
 use Rattle.content.specs.declared.byte.Kind.TheVariants as kind
 use Rattle.content.specs.declared.item.Place.TheVariants.{Content, Line, Block, Field, Date}
 use Rattle.content.specs.declared.item.Seen.{Seen}
-use Rattle.content.specs.declared.test.Verdict.TheVariants.{Good, Unfit}
 use Rattle.content.proofs.Laws.{correct, complete}
 use Rattle.content.proofs.Path.{reading_is_good}
 use Rattle.content.proofs.Run.{run, run_append, run_verdict, verdict_runs, read_past, bad_is_not_done}
@@ -69,9 +68,9 @@ in_block_closes kind.Expansion b seen = font_closes b seen
 in_block_closes kind.Character b seen = block_closes seen
 in_block_closes kind.Other b seen = inl refl
 
-in_code_closes : (c : Coded) (seen : Seen) → Closes (in_code c seen)
-in_code_closes (coded.Code c) seen = date_closes seen
-in_code_closes coded.Not seen = inl refl
+in_code_closes : (c : Option Code) (seen : Seen) → Closes (in_code c seen)
+in_code_closes (Some c) seen = date_closes seen
+in_code_closes None seen = inl refl
 
 step_closes : (m : Mode) (b : ℕ) → Closes (step m b)
 unfolding kind_of
@@ -136,29 +135,29 @@ reads_up_to s i l h =
 run_next : (s : List ℕ) (i : ℕ) → i < length s → run start (take (i + 1) s) ≡ step (run start (take i s)) (get_or s i 0)
 run_next s i l = rw (add-one i, take-suc s i 0 l) (run_append start (take i s) (get_or s i 0 ∷ []))
 
-hopeless_read : (s : List ℕ) (i : ℕ) → FirstHopeless s i → verdict s ≡ Unfit i
+hopeless_read : (s : List ℕ) (i : ℕ) → FirstHopeless s i → verdict s ≡ Err i
 hopeless_read s i f = go (decided s i f.inside)
   where
-    go : Decided (take (i + 1) s) → verdict s ≡ Unfit i
+    go : Decided (take (i + 1) s) → verdict s ≡ Err i
     go (inl e) =
         reads_up_to s i (omega (arith, f.inside)) f.least
         ∙ ap (read i (run start (take i s))) (drop_next s i f.inside)
         ∙ ap (λ (m : Mode). onward i m (read (i + 1) m (drop (i + 1) s))) (sym (run_next s i f.inside) ∙ e)
     go (inr b) = absurd (f.hopeless b)
 
-ended_early : (i : ℕ) (m : Mode) → (m ≡ Done → ⊥) → ended i m ≡ Unfit i
+ended_early : (i : ℕ) (m : Mode) → (m ≡ Done → ⊥) → ended i m ≡ Err i
 ended_early i (Reading spot seen) h = refl
 ended_early i Done h = absurd (h refl)
 ended_early i Bad h = refl
 
-early_read : (s : List ℕ) (i : ℕ) → StopsEarly s i → verdict s ≡ Unfit i
+early_read : (s : List ℕ) (i : ℕ) → StopsEarly s i → verdict s ≡ Err i
 early_read s i f =
     rw f.count
     (reads_up_to s (length s) (omega arith) f.none
     ∙ rw (take-length s, drop_of_length-le s {i = length s} (omega arith))
     (ended_early (length s) (run start s) (λ e. let c = correct s (run_verdict s e) in f.not_whole (tree_of s) c.0 c.1)))
 
-wrong_read : (s : List ℕ) (i : ℕ) → GoesWrong s i → verdict s ≡ Unfit i
+wrong_read : (s : List ℕ) (i : ℕ) → GoesWrong s i → verdict s ≡ Err i
 wrong_read s i (inl f) = hopeless_read s i f
 wrong_read s i (inr f) = early_read s i f
 
@@ -182,7 +181,7 @@ searched s (suc n) l = go (searched s n (omega arith)) (decided s n l)
     go (inr h) (inl e) = inl (n, record { inside = l; hopeless = bad_is_hopeless _ e; least = h })
     go (inr h) (inr b) = inr (one_further s n h b)
 
-goes_wrong : (s : List ℕ) → (verdict s ≡ Good → ⊥) → (i : ℕ) × GoesWrong s i
+goes_wrong : (s : List ℕ) → (verdict s ≡ good → ⊥) → (i : ℕ) × GoesWrong s i
 goes_wrong s n = go (searched s (length s) (omega arith))
   where
     go : Searched s (length s) → (i : ℕ) × GoesWrong s i
@@ -192,7 +191,7 @@ goes_wrong s n = go (searched s (length s) (omega arith))
 pub unfit_there : UnfitThere
 unfit_there s i = (go, wrong_read s i)
   where
-    go : verdict s ≡ Unfit i → GoesWrong s i
+    go : verdict s ≡ Err i → GoesWrong s i
     go e =
         let w = goes_wrong s (λ g. let z : ◌≡◌ {A = ℕ} 0 1 = cc in omega arith) in
         let r = wrong_read s w.0 w.1 in

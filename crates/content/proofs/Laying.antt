@@ -1,5 +1,5 @@
 -- A text laid over marks in a row: over structure nothing changes, and over field positions the text is laid as far as it goes.
-use Prim.Native.Nat.{ℕ, zero, suc, ◌+◌, ◌-◌, ◌≤◌}
+use Prim.Native.Nat.{ℕ, zero, suc, ◌+◌, ◌-◌, ◌≤◌, min}
 use mathlib.Core.Bool.{Bool, true, false}
 use mathlib.Core.List.{List, [], ◌∷◌, ◌++◌, append_assoc, append-nil}
 use mathlib.Core.Path.{◌≡◌, refl, sym, ◌∙◌, ap, ap₂}
@@ -11,6 +11,7 @@ use borrow.Rule.Slice.PartMut.{mid_of, put_mid}
 use Rattle.frame.specs.Build.{Lays}
 use Rattle.frame.specs.Ground.{pick, over}
 use Rattle.frame.proofs.Ground.{length_over}
+use Rattle.std.proofs.lemmas.List.{take_min, drop_min}
 use Rattle.content.specs.Machine.{Mode, start, step}
 use Rattle.content.specs.Position.{Stretch, is_field_position, mark_of, marks}
 use Rattle.content.specs.Update.{laid}
@@ -143,47 +144,40 @@ module _ {s : List ℕ} {at : ℕ} {place : Place} {seen : Seen} {k : Mark} {fro
         ∙ ap (λ (l : List ℕ). l ++ (put ++ z)) (front_then s at from r.ahead))
 
 -- ---- The way of `lay_text`: the bytes passed, with the text left laid over the bytes left, are the whole text laid over the whole content.
-pub record LaidTo (before text s : List ℕ) (count at : ℕ) (place : Place) (seen : Seen) : Type 0 where
+pub record LaidTo (before text s : List ℕ) (left : List ℕ) (at : ℕ) (place : Place) (seen : Seen) : Type 0 where
   pub inside : at ≤ length s
   pub long : length s ≡ length before
-  pub few : count ≤ at
-  pub bytes : take at s ++ laid (drop count text) (here place seen) (drop at s) ≡ laid text start before
+  pub bytes : take at s ++ laid left (here place seen) (drop at s) ≡ laid text start before
 
-pub not_laid : (before text : List ℕ) → LaidTo before text before 0 0 Content (record { lines = 0; fields = 0 })
-not_laid before text = record { inside = omega arith; long = refl; few = omega arith; bytes = refl }
+pub not_laid : (before text : List ℕ) → LaidTo before text before text 0 Content (record { lines = 0; fields = 0 })
+not_laid before text = record { inside = omega arith; long = refl; bytes = refl }
 
-module _ {before text s : List ℕ} {count at : ℕ} {place : Place} {seen : Seen} (l : LaidTo before text s count at place seen) where
+module _ {before text s left : List ℕ} {at : ℕ} {place : Place} {seen : Seen} (l : LaidTo before text s left at place seen) where
   module _ {k : Mark} {from to : ℕ} {place' : Place} {seen' : Seen} {t : Bool} (r : Stretch s at place seen k from to place' seen') (e : t ≡ is_field_position k) where
-    pub laid_past : t ≡ false → LaidTo before text s count to place' seen'
-    laid_past f =
-        record {
-          inside = r.inside;
-          long = l.long;
-          few = omega (arith, l.few, r.ahead, r.some);
-          bytes = laid_over r (drop count text) (sym e ∙ f) ∙ l.bytes;
-        }
+    pub laid_past : t ≡ false → LaidTo before text s left to place' seen'
+    laid_past f = record { inside = r.inside; long = l.long; bytes = laid_over r left (sym e ∙ f) ∙ l.bytes }
 
-    pub laid_on : {front part' s' : List ℕ} {fits : Bool} → t ≡ true → front ≡ take (to - from) (drop count text) → Lays (mid_of from (to - from) s) front fits part' → s' ≡ put_mid from (to - from) s part'
-        → LaidTo before text s' (count + (to - from)) to place' seen'
-    laid_on {s' = s'} f p q w =
+    pub laid_on : {front part' s' left' : List ℕ} {fits : Bool} → t ≡ true → front ≡ take (to - from) left → left' ≡ drop (to - from) left
+        → Lays (mid_of from (to - from) s) front fits part' → s' ≡ put_mid from (to - from) s part' → LaidTo before text s' left' to place' seen'
+    laid_on {s' = s'} f p d q w =
         let n : length (mid_of from (to - from) s) ≡ to - from = part_length s from to (omega (arith, r.some)) r.inside in
-        let whole = w ∙ ap (λ (x : List ℕ). put_mid from (to - from) s x) (filled_by (drop count text) n p q) in
+        let whole = w ∙ ap (λ (x : List ℕ). put_mid from (to - from) s x) (filled_by left n p q) in
         record {
-          inside = omega (arith, length_kept r (drop count text) whole, r.inside);
-          long = length_kept r (drop count text) whole ∙ l.long;
-          few = omega (arith, l.few, r.ahead, r.some);
-          bytes =
-              ap (λ (x : List ℕ). take to s' ++ laid x (here place' seen') (drop to s')) (sym (drop-drop (to - from) count text))
-              ∙ laid_into r (drop count text) whole (sym e ∙ f)
-              ∙ l.bytes;
+          inside = omega (arith, length_kept r left whole, r.inside);
+          long = length_kept r left whole ∙ l.long;
+          bytes = ap (λ (x : List ℕ). take to s' ++ laid x (here place' seen') (drop to s')) d ∙ laid_into r left whole (sym e ∙ f) ∙ l.bytes;
         }
 
   pub laid_all : marks (here place seen) (drop at s) ≡ replicate (length s - at) Structure → s ≡ laid text start before
   laid_all e =
-      let rest : laid (drop count text) (here place seen) (drop at s) ≡ drop at s =
-      laid_by_marks (drop count text) (here place seen) (drop at s)
-      ∙ ap₂ (λ (m : List Mark) (x : List ℕ). lay (drop count text) m x) (e ∙ sym (append-nil (replicate (length s - at) Structure))) (sym (append-nil (drop at s)))
-      ∙ lay_kept (drop count text) (length s - at) Structure [] (drop at s) [] refl (length-drop at s)
-      ∙ ap (λ (x : List ℕ). drop at s ++ x) (lay_nothing (drop count text))
+      let rest : laid left (here place seen) (drop at s) ≡ drop at s =
+      laid_by_marks left (here place seen) (drop at s)
+      ∙ ap₂ (λ (m : List Mark) (x : List ℕ). lay left m x) (e ∙ sym (append-nil (replicate (length s - at) Structure))) (sym (append-nil (drop at s)))
+      ∙ lay_kept left (length s - at) Structure [] (drop at s) [] refl (length-drop at s)
+      ∙ ap (λ (x : List ℕ). drop at s ++ x) (lay_nothing left)
       ∙ append-nil (drop at s) in
       sym (sym l.bytes ∙ ap (λ (x : List ℕ). take at s ++ x) rest ∙ take-append-drop at s)
+
+-- What is taken of a text where there is less of it, and what is left of it then.
+pub taken : (n : ℕ) (text : List ℕ) {m : ℕ} → m ≡ min n (length text) → (take m text ≡ take n text) × (drop m text ≡ drop n text)
+taken n text e = rw e (take_min n text, drop_min n text)

@@ -4,6 +4,7 @@ use Prim.Native.Nat.{ℕ, zero, suc, ◌+◌, ◌-◌, ◌≤◌, ◌<◌}
 use mathlib.Core.Bool.{Bool, true, false}
 use mathlib.Core.List.{List, [], ◌∷◌, ◌++◌, append_assoc}
 use mathlib.Core.Path.{◌≡◌, refl, sym, ◌∙◌, ap}
+use Rattle.std.specs.Prelude.{Err}
 use native.Mathlib.Omega.{arith}
 use borrow.Author.Tests.{ltb-true, ltb-false}
 use lib.Dec.{ltb}
@@ -21,7 +22,6 @@ use Rattle.content.specs.declared.item.Seen.{Seen}
 use Rattle.content.specs.declared.position.Mark.{Mark}
 use Rattle.content.specs.declared.position.Mark.TheVariants.{Structure}
 use Rattle.content.specs.declared.strip.Values.{Values}
-use Rattle.content.specs.declared.test.Verdict.TheVariants.{Unfit}
 use Rattle.content.proofs.Bytes.{kind_of_character, character_is_no_mark}
 use Rattle.content.proofs.Run.{run, read_past, run_append, marks_append, strip_append}
 
@@ -168,10 +168,10 @@ done_strip v [] = refl
 done_strip v (b ∷ s) = bad_strip v s
 
 module _ (s : List ℕ) (i : ℕ) (spot : Spot) (seen : Seen) (e : stepped spot (get_or s i 0) seen ≡ Bad) where
-  pub stuck_read : read i (Reading spot seen) (drop i s) ≡ Unfit i
+  pub stuck_read : read i (Reading spot seen) (drop i s) ≡ Err i
   stuck_read = go (ltb i (length s)) refl
     where
-      go : (t : Bool) → ltb i (length s) ≡ t → read i (Reading spot seen) (drop i s) ≡ Unfit i
+      go : (t : Bool) → ltb i (length s) ≡ t → read i (Reading spot seen) (drop i s) ≡ Err i
       go true h =
           ap (read i (Reading spot seen)) (drop_next s i (ltb-true i (length s) h))
           ∙ ap (λ (m : Mode). onward i m (read (i + 1) m (drop (i + 1) s))) e

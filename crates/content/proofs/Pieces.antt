@@ -5,6 +5,7 @@ use mathlib.Core.Bool.{true}
 use mathlib.Core.List.{List, [], ◌∷◌, ◌++◌, append_assoc, append-nil, map}
 use mathlib.Core.Path.{◌≡◌, refl, ap, ◌∙◌, sym}
 use native.Mathlib.Nat.{add-zero, add_assoc}
+use Rattle.std.specs.Prelude.{None, Option, Some}
 use native.Mathlib.Omega.{arith}
 use borrow.Author.Tests.{lt-ltb}
 use lib.Dec.{eqb}
@@ -18,8 +19,7 @@ use Rattle.content.specs.Grammar.{Item, Block, Line, Tree, character, tabulation
 use Rattle.content.specs.Marks.{between, item_marks, items_marks, block_marks, blocks_marks, line_marks, tree_marks, item_letters, items_letters, blocks_letters, tree_letters}
 use Rattle.content.specs.Position.{at_fields, is_field_position, mark_of, marks}
 use Rattle.content.specs.Tree.{Rest, nothing, before, with_block, with_line as line_Before, rest}
-use Rattle.content.specs.declared.byte.Coded.{Coded}
-use Rattle.content.specs.declared.byte.Coded.TheVariants as coded
+use Rattle.content.specs.declared.byte.Code.{Code}
 use Rattle.content.specs.declared.item.Place.TheVariants as place
 use Rattle.content.specs.declared.item.Seen.{Seen}
 use Rattle.content.specs.declared.position.Mark.{Mark}
@@ -94,13 +94,13 @@ block_at l f = in_block (record { lines = l; fields = f })
 abbrev pub behind : List ℕ → List Item → List Block → List Line → Rest
 behind cs is bs ls = record { letters = cs; items = is; font = 0; blocks = bs; lines = ls }
 
-in_code_stays : (k : Coded) (seen : Seen) → is_code k ≡ true → in_code k seen ≡ Reading (machine.Inside place.Date) seen
-in_code_stays (coded.Code c) seen e = refl
-in_code_stays coded.Not seen e = never e
+in_code_stays : (k : Option Code) (seen : Seen) → is_code k ≡ true → in_code k seen ≡ Reading (machine.Inside place.Date) seen
+in_code_stays (Some c) seen e = refl
+in_code_stays None seen e = never e
 
-code_shown : (v : Values) (k : Coded) → shown_code v k ≡ code_text v k
-code_shown v (coded.Code c) = refl
-code_shown v coded.Not = refl
+code_shown : (v : Values) (k : Option Code) → shown_code v k ≡ code_text v k
+code_shown v (Some c) = refl
+code_shown v None = refl
 
 module _ (v : Values) (is : List Item) (bs : List Block) (ls : List Line) where
   letters_piece :

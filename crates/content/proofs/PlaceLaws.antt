@@ -4,31 +4,28 @@ use mathlib.Core.Bool.{Bool, true, false}
 use mathlib.Core.List.{List, [], ◌∷◌}
 use mathlib.Core.Logic.{◌↔◌, ◌⊎◌, inl, inr}
 use mathlib.Core.Path.{◌≡◌, refl, sym, ◌∙◌, ap, subst}
+use Rattle.std.specs.Prelude.{Ok, Err, Some}
+use native.Mathlib.Numerals.{one-add}
+use Rattle.std.specs.List.{prefix_len}
 use native.Mathlib.Omega.{arith}
 use borrow.Author.Tests.{eq-eqb, eqb-true, le-leb, lt-leb, leb-true, leb-false, ltb-true, ltb-false}
 use lib.Dec.{eqb, leb, ltb}
 use lib.ListN.{length, get_or, drop}
 use lib.Seq.{get_or-drop}
+use Rattle.frame.specs.Build.{given_by}
 use Rattle.frame.specs.Ground.{both, given, pick, placed, plain, unless}
 use Rattle.frame.specs.declared.given.Given.{Given}
-use Rattle.frame.specs.declared.given.Where.TheVariants.{At}
 use Rattle.frame.proofs.Ground.{never, true_both}
-use Rattle.content.specs.Byte.{all_characters, in_front, is_character}
-use Rattle.content.specs.Content.{is_content, is_good, tested, unfit_place, verdict, wrong_place}
-use Rattle.content.specs.Edit as edits
+use Rattle.content.specs.Byte.{all_characters, is_character}
+use Rattle.content.specs.Content.{Verdict, good, is_content, is_good, tested, unfit_place, verdict, wrong_place}
 use Rattle.content.specs.Edit.{addressed, astray, edited}
 use Rattle.content.specs.Marks.{tree_letters, tree_marks}
 use Rattle.content.specs.PlaceLaws.{TenAt, TestedThere, TestedGood, FirstAstray, EditAstray, FirstOther, OnCharacters, EditOther, UpdateOther}
 use Rattle.content.specs.Position.{field_positions, is_position}
 use Rattle.content.specs.Tree.{tree_of}
-use Rattle.content.specs.Update as updates
 use Rattle.content.specs.Update.{update_tests, updated}
-use Rattle.content.specs.declared.edit.Edited.TheVariants as edit
 use Rattle.content.specs.declared.position.Mark.{Mark}
 use Rattle.content.specs.declared.position.Mark.TheVariants.{Structure}
-use Rattle.content.specs.declared.test.Verdict.{Verdict}
-use Rattle.content.specs.declared.test.Verdict.TheVariants.{Good, Unfit}
-use Rattle.content.specs.declared.update.Updated.TheVariants as update
 use Rattle.content.proofs.ChangeLaws.{addressed_at, marks_of_content, positions_of_content}
 use Rattle.content.proofs.Front.{some_other}
 use Rattle.content.proofs.Hopeless.{unfit_there}
@@ -40,27 +37,27 @@ same_number : {g h : Given} → g ≡ h → g.number ≡ h.number
 same_number e = ap (λ (g : Given). g.number) e
 
 same_place : (n i k : ℕ) → placed n i ≡ placed n k → k ≡ i
-same_place n i k e = let w : At i ≡ At k = ap (λ (g : Given). g.place) e in cc
+same_place n i k e = let w : Some i ≡ Some k = ap (λ (g : Given). g.place) e in cc
 
 -- ---- 10: what the test gives, by the length and the verdict.
 abbrev comes_to : Bool → Verdict → Given
 comes_to t v = unless (both t (is_good v)) (placed 10 (pick t (unfit_place v) 512)) (plain 0)
 
-ten : (t : Bool) (v : Verdict) (i : ℕ) → comes_to t v ≡ placed 10 i → ((t ≡ false) × (i ≡ 512)) ⊎ ((t ≡ true) × (v ≡ Unfit i))
+ten : (t : Bool) (v : Verdict) (i : ℕ) → comes_to t v ≡ placed 10 i → ((t ≡ false) × (i ≡ 512)) ⊎ ((t ≡ true) × (v ≡ Err i))
 ten false v i e = inl (refl, same_place 10 512 i e)
-ten true Good i e = absurd (omega (arith, same_number e))
-ten true (Unfit j) i e = inr (refl, ap Unfit (sym (same_place 10 j i e)))
+ten true (Ok u) i e = absurd (omega (arith, same_number e))
+ten true (Err j) i e = inr (refl, ap (λ (j : ℕ). Err j) (sym (same_place 10 j i e)))
 
-zero_given : (t : Bool) (v : Verdict) → comes_to t v ≡ plain 0 → (t ≡ true) × (v ≡ Good)
+zero_given : (t : Bool) (v : Verdict) → comes_to t v ≡ plain 0 → (t ≡ true) × (v ≡ good)
 zero_given false v e = absurd (omega (arith, same_number e))
-zero_given true Good e = (refl, refl)
-zero_given true (Unfit j) e = absurd (omega (arith, same_number e))
+zero_given true (Ok u) e = (refl, refl)
+zero_given true (Err j) e = absurd (omega (arith, same_number e))
 
 pub tested_there : TestedThere
 unfolding tested is_content wrong_place
 tested_there s i = ((λ e. go (ten (leb (length s) 512) (verdict s) i e)), back)
   where
-    go : ((leb (length s) 512 ≡ false) × (i ≡ 512)) ⊎ ((leb (length s) 512 ≡ true) × (verdict s ≡ Unfit i)) → TenAt s i
+    go : ((leb (length s) 512 ≡ false) × (i ≡ 512)) ⊎ ((leb (length s) 512 ≡ true) × (verdict s ≡ Err i)) → TenAt s i
     go (inl h) = inl (leb-false (length s) 512 h.0, h.1)
     go (inr h) = inr (leb-true (length s) 512 h.0, (unfit_there s i).0 h.1)
 
@@ -105,24 +102,24 @@ first f (suc n) = go (f n) refl (first f n)
 abbrev character_at : List ℕ → ℕ → Bool
 character_at s i = is_character (get_or s i 0)
 
-other_in_front : (s : List ℕ) (i : ℕ) → i < length s → character_at s i ≡ false → AllPass (character_at s) i → in_front is_character s ≡ i
+other_in_front : (s : List ℕ) (i : ℕ) → i < length s → character_at s i ≡ false → AllPass (character_at s) i → prefix_len is_character s ≡ i
 other_in_front [] i h e l = absurd (omega arith)
 other_in_front (b ∷ s) zero h e l = rw e
-other_in_front (b ∷ s) (suc i) h e l = rw (l 0 (omega arith)) (ap suc (other_in_front s i (omega arith) e (λ k g. l (suc k) (omega arith))))
+other_in_front (b ∷ s) (suc i) h e l = rw (l 0 (omega arith), one-add) (ap suc (other_in_front s i (omega arith) e (λ k g. l (suc k) (omega arith))))
 
 all_are : (s : List ℕ) → AllPass (character_at s) (length s) → all_characters s ≡ true
 all_are [] h = refl
 all_are (b ∷ s) h = true_both (is_character b) (all_characters s) (h 0 (omega arith)) (all_are s (λ k g. h (suc k) (omega arith)))
 
-pub first_other : (s : List ℕ) (i : ℕ) → FirstOther s i ↔ ((i ≡ in_front is_character s) × (all_characters s ≡ false))
+pub first_other : (s : List ℕ) (i : ℕ) → FirstOther s i ↔ ((i ≡ prefix_len is_character s) × (all_characters s ≡ false))
 first_other s i = (there i, (λ h. back h (first (character_at s) (length s))))
   where
-    there : (j : ℕ) → FirstOther s j → (j ≡ in_front is_character s) × (all_characters s ≡ false)
+    there : (j : ℕ) → FirstOther s j → (j ≡ prefix_len is_character s) × (all_characters s ≡ false)
     there j f =
         let e = other_in_front s j f.inside f.other f.least in
         (sym e, some_other s (rw e f.inside))
 
-    back : (i ≡ in_front is_character s) × (all_characters s ≡ false) → Searched (character_at s) (length s) → FirstOther s i
+    back : (i ≡ prefix_len is_character s) × (all_characters s ≡ false) → Searched (character_at s) (length s) → FirstOther s i
     back h (inl a) = never (sym h.1 ∙ all_are s a)
     back h (inr x) =
         let f : FirstOther s x.0 = record { inside = x.1.0; other = x.1.1; least = x.1.2 } in
@@ -163,29 +160,29 @@ module _ (s : List ℕ) (address : ℕ) (symbols : List ℕ) (i : ℕ) where
           }
 
   abbrev given-there : Given
-  given-there = unless (addressed symbols there) (placed 12 (astray address symbols there)) (unless (all_characters symbols) (placed 13 (in_front is_character symbols)) (plain 0))
+  given-there = unless (addressed symbols there) (placed 12 (astray address symbols there)) (unless (all_characters symbols) (placed 13 (prefix_len is_character symbols)) (plain 0))
 
-  module _ (v : verdict s ≡ Good) where
-    edit_given : {g : Given} → edited s address symbols ≡ edit.Refused g → given-there ≡ g
-    edit_given e = rw (← marks_of_content s v) (sym (edit_told s address symbols {r = edited s address symbols} refl refl).first ∙ ap edits.given_by e)
+  module _ (v : verdict s ≡ good) where
+    edit_given : {g : Given} → edited s address symbols ≡ Err g → given-there ≡ g
+    edit_given e = rw (← marks_of_content s v) (sym (edit_told s address symbols {r = edited s address symbols} refl refl).first ∙ ap given_by e)
 
-    astray_there : edited s address symbols ≡ edit.Refused (placed 12 i) → FirstAstray s address (length symbols) i
-    astray_there e = let t = twelve (addressed symbols there) (all_characters symbols) (astray address symbols there) (in_front is_character symbols) i (edit_given e) in strays_first t.1 t.0
+    astray_there : edited s address symbols ≡ Err (placed 12 i) → FirstAstray s address (length symbols) i
+    astray_there e = let t = twelve (addressed symbols there) (all_characters symbols) (astray address symbols there) (prefix_len is_character symbols) i (edit_given e) in strays_first t.1 t.0
 
-    astray_back : FirstAstray s address (length symbols) i → edited s address symbols ≡ edit.Refused (placed 12 i)
+    astray_back : FirstAstray s address (length symbols) i → edited s address symbols ≡ Err (placed 12 i)
     unfolding edited
     astray_back f =
         let t = strayed_at address symbols there (strays_at all-marks address symbols i f.behind f.before f.astray f.least) in
         rw (marks_of_content s v, t.0, t.1)
 
-    other_there : edited s address symbols ≡ edit.Refused (placed 13 i) → OnCharacters s address (length symbols) × FirstOther symbols i
+    other_there : edited s address symbols ≡ Err (placed 13 i) → OnCharacters s address (length symbols) × FirstOther symbols i
     other_there e =
-        let t = thirteen (addressed symbols there) (all_characters symbols) (placed 12 (astray address symbols there)) (in_front is_character symbols) i (λ n. omega arith) (edit_given e) in (
+        let t = thirteen (addressed symbols there) (all_characters symbols) (placed 12 (astray address symbols there)) (prefix_len is_character symbols) i (λ n. omega arith) (edit_given e) in (
           (λ k a b. sym (from_address all-marks address k a) ∙ addressed_at symbols there (k - address) t.0 (omega arith)),
           (first_other symbols i).1 (t.1, t.2),
         )
 
-    other_back : OnCharacters s address (length symbols) × FirstOther symbols i → edited s address symbols ≡ edit.Refused (placed 13 i)
+    other_back : OnCharacters s address (length symbols) × FirstOther symbols i → edited s address symbols ≡ Err (placed 13 i)
     unfolding edited
     other_back h =
         let t = (first_other symbols i).0 h.1 in
@@ -204,13 +201,13 @@ update_other s text i v = (there, back)
     n : field_positions s ≡ length (tree_letters (tree_of s))
     n = positions_of_content s v
 
-    there : updated s text ≡ update.Refused (placed 13 i) → (length text ≡ length (tree_letters (tree_of s))) × FirstOther text i
+    there : updated s text ≡ Err (placed 13 i) → (length text ≡ length (tree_letters (tree_of s))) × FirstOther text i
     there e =
-        let g : given (update_tests (field_positions s) text) ≡ placed 13 i = sym (update_told s text {r = updated s text} refl refl).first ∙ ap updates.given_by e in
-        let t = thirteen (eqb (length text) (field_positions s)) (all_characters text) (plain 18) (in_front is_character text) i (λ n. omega arith) g in
+        let g : given (update_tests (field_positions s) text) ≡ placed 13 i = sym (update_told s text {r = updated s text} refl refl).first ∙ ap given_by e in
+        let t = thirteen (eqb (length text) (field_positions s)) (all_characters text) (plain 18) (prefix_len is_character text) i (λ n. omega arith) g in
         (eqb-true _ _ t.0 ∙ n, (first_other text i).1 (t.1, t.2))
 
-    back : (length text ≡ length (tree_letters (tree_of s))) × FirstOther text i → updated s text ≡ update.Refused (placed 13 i)
+    back : (length text ≡ length (tree_letters (tree_of s))) × FirstOther text i → updated s text ≡ Err (placed 13 i)
     back h =
         let t = (first_other text i).0 h.1 in
         rw (eq-eqb (length text) (field_positions s) (h.0 ∙ sym n), t.1, t.0)

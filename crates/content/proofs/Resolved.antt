@@ -4,6 +4,7 @@ use Prim.Native.Nat.{ℕ, zero, suc, ◌*◌, ◌≤◌}
 use mathlib.Core.Bool.{Bool, true, false}
 use mathlib.Core.List.{List, [], ◌∷◌, ◌++◌, append_assoc, map, map-map}
 use mathlib.Core.Path.{◌≡◌, refl, ap}
+use Rattle.std.specs.Prelude.{None, Option, Some}
 use native.Mathlib.Omega.{arith}
 use lib.Dec.{eqb}
 use lib.ListN.{length, get_or, length-append, length-map}
@@ -14,8 +15,7 @@ use Rattle.content.specs.Grammar.{Item, Block, Line, Tree, character, tabulation
 use Rattle.content.specs.StripLaws.{Printable, printable}
 use Rattle.content.specs.declared.byte.Code.{Code}
 use Rattle.content.specs.declared.byte.Code.TheVariants.{Entry, Colon, Slash, Dot, Space}
-use Rattle.content.specs.declared.byte.Coded.{Coded}
-use Rattle.content.specs.declared.byte.Coded.TheVariants as coded
+use Rattle.content.specs.declared.byte.Code.{Code}
 use Rattle.content.specs.declared.strip.Values.{Values}
 use Rattle.frame.proofs.Ground.{both_true, pick_case, true_both}
 use Rattle.content.proofs.Good.{good_tree_tells, tree_is_good}
@@ -64,14 +64,14 @@ module _ (v : Values) (p : Printable v) where
   code_prints Dot = refl
   code_prints Space = refl
 
-  code_text_characters : (c : Coded) → all_characters (code_text v c) ≡ true
+  code_text_characters : (c : Option Code) → all_characters (code_text v c) ≡ true
   unfolding printed
-  code_text_characters (coded.Code c) = go (eqb (character_of v c) 0x00) (code_prints c)
+  code_text_characters (Some c) = go (eqb (character_of v c) 0x00) (code_prints c)
     where
       go : (x : Bool) → pick x true (is_character (character_of v c)) ≡ true → all_characters (pick x [] (character_of v c ∷ [])) ≡ true
       go true e = refl
       go false e = rw e
-  code_text_characters coded.Not = refl
+  code_text_characters None = refl
 
   date_text_characters : (cs : List ℕ) → all_characters (date_text v cs) ≡ true
   date_text_characters [] = refl
@@ -189,11 +189,11 @@ module _ (v : Values) where
 
 -- Each item grows to three times its bytes at most.
 module _ (v : Values) where
-  code_text_length : (c : Coded) → length (code_text v c) ≤ 1
+  code_text_length : (c : Option Code) → length (code_text v c) ≤ 1
   unfolding printed
-  code_text_length (coded.Code c) =
+  code_text_length (Some c) =
       pick_case (λ (t : List ℕ). length t ≤ 1) (eqb (character_of v c) 0x00) _ _ (λ e. omega arith) (λ e. omega arith)
-  code_text_length coded.Not = omega arith
+  code_text_length None = omega arith
 
   date_text_length : (cs : List ℕ) → length (date_text v cs) ≤ length cs
   date_text_length [] = omega arith

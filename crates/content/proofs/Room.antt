@@ -4,6 +4,7 @@ use Prim.Native.Nat.{ℕ, ◌+◌, ◌*◌, ◌≤◌}
 use mathlib.Core.Bool.{Bool, true, false}
 use mathlib.Core.List.{List, [], ◌∷◌}
 use mathlib.Core.Path.{◌≡◌}
+use Rattle.std.specs.Prelude.{None, Option, Some}
 use native.Mathlib.Omega.{arith}
 use lib.Dec.{eqb, ltb}
 use lib.ListN.{length, length-append}
@@ -11,8 +12,7 @@ use Rattle.frame.specs.Ground.{pick}
 use Rattle.content.specs.Byte.{kind_of, code_of, is_character, is_count, is_expansion}
 use Rattle.content.specs.Machine.{Inside, Font, TabulationCount, TabulationEnd, CounterNumber, CounterEnd, Mode, Reading, Done, Bad, start, step, with_line, with_field, in_block, in_code}
 use Rattle.content.specs.Strip.{character_of, printed, shown_by, shown_code, shown_in_block, strip, strip_from, where_good}
-use Rattle.content.specs.declared.byte.Coded.{Coded}
-use Rattle.content.specs.declared.byte.Coded.TheVariants as coded
+use Rattle.content.specs.declared.byte.Code.{Code}
 use Rattle.content.specs.declared.byte.Kind.{Kind}
 use Rattle.content.specs.declared.byte.Kind.TheVariants as kind
 use Rattle.content.specs.declared.item.Place.TheVariants.{Content, Line, Block, Field, Date}
@@ -67,9 +67,9 @@ module _ (v : Values) (nine : length v.digits ≡ 9) where
   block_paid kind.Character seen b = omega arith
   block_paid kind.Other seen b = omega arith
 
-  code_paid : (k : Coded) (seen : Seen) → Paid 3 (in_code k seen) (shown_code v k)
-  code_paid (coded.Code c) seen = omega (arith, one_printed (character_of v c))
-  code_paid coded.Not seen = omega arith
+  code_paid : (k : Option Code) (seen : Seen) → Paid 3 (in_code k seen) (shown_code v k)
+  code_paid (Some c) seen = omega (arith, one_printed (character_of v c))
+  code_paid None seen = omega arith
 
   pays : (m : Mode) (b : ℕ) → Paid (3 + credit m) (step m b) (shown_by v m b)
   pays (Reading (Inside Content) seen) b = go (eqb b 0x0A)

@@ -9,13 +9,11 @@ use native.Mathlib.Omega.{arith}
 use lib.ListN.{length}
 use Rattle.frame.specs.Ground.{pick}
 use Rattle.content.specs.Machine.{Spot, Mode, Reading, Done, Bad, start, step}
-use Rattle.content.specs.Content.{verdict, read, ended, onward}
+use Rattle.content.specs.Content.{Verdict, good, verdict, read, ended, onward}
 use Rattle.content.specs.declared.item.Seen.{Seen}
 use Rattle.content.specs.Position.{at_fields, field_positions_from, is_field_position, mark_of, marks}
 use Rattle.content.specs.Strip.{strip_from}
 use Rattle.content.specs.declared.strip.Values.{Values}
-use Rattle.content.specs.declared.test.Verdict.{Verdict}
-use Rattle.content.specs.declared.test.Verdict.TheVariants.{Good}
 
 -- The mode after bytes.
 abbrev pub run : Mode → List ℕ → Mode
@@ -51,28 +49,28 @@ read_past i m (b ∷ p) q h =
     let n : i + suc (length p) ≡ i + 1 + length p = omega arith in
     rw n (onward_past i (step m b) p _ h ∙ read_past (i + 1) (step m b) p q h)
 
-pub run_verdict : (s : List ℕ) → run start s ≡ Done → verdict s ≡ Good
+pub run_verdict : (s : List ℕ) → run start s ≡ Done → verdict s ≡ good
 unfolding verdict
 run_verdict s e =
     ap (read 0 start) (sym (append-nil s))
     ∙ read_past 0 start s [] (λ b. let z : ◌≡◌ {A = ℕ} 0 1 = cc in omega arith)
     ∙ ap (ended (0 + length s)) e
 
-onward_good : (i : ℕ) (m : Mode) (v : Verdict) → onward i m v ≡ Good → v ≡ Good
+onward_good : (i : ℕ) (m : Mode) (v : Verdict) → onward i m v ≡ good → v ≡ good
 onward_good i (Reading spot seen) v e = e
 onward_good i Done v e = e
 onward_good i Bad v e = cc
 
-ended_good : (i : ℕ) (m : Mode) → ended i m ≡ Good → m ≡ Done
+ended_good : (i : ℕ) (m : Mode) → ended i m ≡ good → m ≡ Done
 ended_good i (Reading spot seen) e = cc
 ended_good i Done e = refl
 ended_good i Bad e = cc
 
-good_runs : (i : ℕ) (m : Mode) (s : List ℕ) → read i m s ≡ Good → run m s ≡ Done
+good_runs : (i : ℕ) (m : Mode) (s : List ℕ) → read i m s ≡ good → run m s ≡ Done
 good_runs i m [] e = ended_good i m e
 good_runs i m (b ∷ s) e = good_runs (i + 1) (step m b) s (onward_good i (step m b) (read (i + 1) (step m b) s) e)
 
-pub verdict_runs : (s : List ℕ) → verdict s ≡ Good → run start s ≡ Done
+pub verdict_runs : (s : List ℕ) → verdict s ≡ good → run start s ≡ Done
 unfolding verdict
 verdict_runs s e = good_runs 0 start s e
 

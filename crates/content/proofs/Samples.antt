@@ -113,7 +113,7 @@ mixed_marks = refl
 edit_at : ℕ → List ℕ → Given × List ℕ
 edit_at address symbols =
     let r = edits.edited mixed address symbols in
-    (edits.given_by r, edits.bytes_after r mixed address symbols)
+    (build.given_by r, edits.bytes_after r mixed address symbols)
 
 -- Numbers 0, 12 and 13; all addresses are looked at before all symbols, and a refusal leaves every byte. 12 has the first address that is
 -- none, also behind the last byte and far behind it, 13 the index among the symbols.
@@ -149,7 +149,7 @@ edits_hold = refl
 update_with : List ℕ → Given × List ℕ
 update_with text =
     let r = updates.updated mixed text in
-    (updates.given_by r, updates.bytes_after r mixed text)
+    (build.given_by r, updates.bytes_after r mixed text)
 
 -- Numbers 0, 18 and 13: two positions take two characters, and no other number of bytes, characters or not; a refusal leaves every byte.
 updates_hold :

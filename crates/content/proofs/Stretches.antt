@@ -1,16 +1,16 @@
 -- Marks in a row: the way of `run_at` from token to token, and what edits and updates make of each stretch of marks that it finds.
-use Prim.Native.Nat.{ℕ, zero, suc, ◌+◌, ◌-◌, ◌≤◌, ◌<◌}
+use Prim.Native.Nat.{ℕ, zero, suc, ◌+◌, ◌-◌, ◌≤◌, ◌<◌, max}
 use mathlib.Core.Bool.{Bool, true, false}
 use mathlib.Core.List.{List, [], ◌∷◌, ◌++◌, append_assoc}
 use mathlib.Core.Path.{◌≡◌, refl, sym, ◌∙◌, ap, subst}
 use native.Mathlib.Nat.{add-zero}
+use Rattle.std.specs.Prelude.{Option, None, Some}
 use native.Mathlib.Omega.{arith}
 use borrow.Author.Tests.{ltb-true, ltb-false}
 use lib.Dec.{ltb}
 use lib.ListN.{length, get_or, drop, replicate, length-drop, length-replicate, get_or-replicate, get_or-append, get_or-eq_default}
 use lib.Seq.{drop_at, drop-drop, get_or-drop}
 use Rattle.frame.specs.Ground.{pick}
-use Rattle.frame.specs.declared.given.Where.TheVariants.{Nowhere, At}
 use Rattle.frame.proofs.Ground.{never, true_both, drop_next}
 use Rattle.content.specs.Edit.{addressed, astray, strayed}
 use Rattle.content.specs.Item.{behind, counted, past, piece_at}
@@ -27,7 +27,6 @@ use Rattle.content.specs.declared.item.Token.TheVariants as token
 use Rattle.content.specs.declared.position.Mark.{Mark}
 use Rattle.content.specs.declared.position.Mark.TheVariants.{Structure, Character, FieldCharacter}
 use Rattle.content.specs.declared.position.Run.{Run}
-use Rattle.content.specs.declared.position.Run.TheVariants.{Found, None}
 use Rattle.content.proofs.Path.{path_marks, done_marks, no_character, replicate_append, stuck_marks}
 use Rattle.content.proofs.Run.{length_marks}
 use Rattle.content.proofs.Tokens.{here, Goes, Fails, Last, kind_no_character, piece_tells}
@@ -109,6 +108,15 @@ module _ {s : List ℕ} {at₀ : ℕ} {place₀ : Place} {seen₀ : Seen} {at : 
           ap (marks (here place seen)) (drop_next s at h)
           ∙ rw (g.block, g.kind, no_character (here Block seen) b (kind_no_character b kind.End g.kind (λ z. let y : ◌≡◌ {A = ℕ} 0 1 = cc in omega arith)), l, done_marks (drop (at + 1) s))
 
+  -- Where no item is found, all is structure.
+  pub walked_none : ((i : Item) (next : ℕ) → t ≡ token.Read i next → ⊥) → marks (here place₀ seen₀) (drop at₀ s) ≡ replicate (length s - at₀) Structure
+  walked_none n = go t refl
+    where
+      go : (u : Token) → t ≡ u → marks (here place₀ seen₀) (drop at₀ s) ≡ replicate (length s - at₀) Structure
+      go (token.Read i next) f = absurd (n i next f)
+      go token.Ends f = walked_out f
+      go (token.Unfit p) f = walked_unfit f
+
 -- The same from where the reader stood to where it stands.
 abbrev pub Walks : List ℕ → Reader → Reader → Type 0
 Walks s a b = Walked s a.at a.place a.seen b.at b.place b.seen
@@ -118,14 +126,14 @@ module _ {s : List ℕ} {a b c : Reader} {t : Token} {i : Item} {next : ℕ} {k 
   pub walks_on : r ≡ false → (b.at < c.at) × Walks s a c
   walks_on g = rw p (walked_on w e f refl refl m d g)
 
-  pub walks_to : r ≡ true → Runs s a (Found k b.at c)
+  pub walks_to : r ≡ true → Runs s a (Some (record { mark = k; from = b.at; next = c }))
   walks_to g = rw p (walked_to w e f refl refl m d g)
 
 -- What a run that is found tells.
-pub found : (s : List ℕ) (at : Reader) {r : Run} {k : Mark} {from : ℕ} {next : Reader} → Runs s at r → r ≡ Found k from next → Runs s at (Found k from next)
+pub found : (s : List ℕ) (at : Reader) {r : Option Run} {run : Run} → Runs s at r → r ≡ Some run → Runs s at (Some run)
 found s at h e = subst (Runs s at) e h
 
-pub found_none : (s : List ℕ) (at : Reader) {r : Run} → Runs s at r → r ≡ None → Runs s at None
+pub found_none : (s : List ℕ) (at : Reader) {r : Option Run} → Runs s at r → r ≡ None → Runs s at None
 found_none s at h e = subst (Runs s at) e h
 
 -- ---- Field positions.
@@ -188,14 +196,14 @@ all_land [] ms h = refl
 all_land (x ∷ xs) [] h = never (h 0 (omega arith))
 all_land (x ∷ xs) (m ∷ ms) h = true_both (is_position m) (addressed xs ms) (h 0 (omega arith)) (all_land xs ms (λ k g. h (suc k) (omega arith)))
 
-pub one_strays : (xs : List ℕ) (ms : List Mark) (address i : ℕ) → i < length xs → lands ms i ≡ false → ((k : ℕ) → k < i → lands ms k ≡ true) → strayed address xs ms ≡ At (address + i)
+pub one_strays : (xs : List ℕ) (ms : List Mark) (address i : ℕ) → i < length xs → lands ms i ≡ false → ((k : ℕ) → k < i → lands ms k ≡ true) → strayed address xs ms ≡ Some (address + i)
 one_strays [] ms address i g e h = absurd (omega arith)
 one_strays (x ∷ xs) [] address zero g e h = rw add-zero
 one_strays (x ∷ xs) [] address (suc i) g e h = never (h 0 (omega arith))
 one_strays (x ∷ xs) (m ∷ ms) address zero g e h = rw (e, add-zero)
 one_strays (x ∷ xs) (m ∷ ms) address (suc i) g e h =
     let n : address + 1 + i ≡ address + suc i = omega arith in
-    rw (h 0 (omega arith)) (one_strays xs ms (address + 1) i (omega arith) e (λ k l. h (suc k) (omega arith)) ∙ ap At n)
+    rw (h 0 (omega arith)) (one_strays xs ms (address + 1) i (omega arith) e (λ k l. h (suc k) (omega arith)) ∙ ap (λ (j : ℕ). Some j) n)
 
 -- The same by address.
 module _ (ms : List Mark) (address : ℕ) where
@@ -208,26 +216,26 @@ module _ (ms : List Mark) (address : ℕ) where
   pub all_addressed : (xs : List ℕ) → AllLand ms address (address + length xs) → addressed xs (drop address ms) ≡ true
   all_addressed xs h = all_land xs (drop address ms) (λ k g. behind_address h k (omega arith))
 
-  pub none_strays : (xs : List ℕ) → AllLand ms address (address + length xs) → Nowhere ≡ strayed address xs (drop address ms)
+  pub none_strays : (xs : List ℕ) → AllLand ms address (address + length xs) → None ≡ strayed address xs (drop address ms)
   none_strays xs h = rw (all_addressed xs h)
 
-  pub strays_at : (xs : List ℕ) (i : ℕ) → address ≤ i → i < address + length xs → lands ms i ≡ false → AllLand ms address i → strayed address xs (drop address ms) ≡ At i
+  pub strays_at : (xs : List ℕ) (i : ℕ) → address ≤ i → i < address + length xs → lands ms i ≡ false → AllLand ms address i → strayed address xs (drop address ms) ≡ Some i
   strays_at xs i a b e h =
       let n : address + (i - address) ≡ i = omega arith in
-      one_strays xs (drop address ms) address (i - address) (omega arith) (from_address i a ∙ e) (λ k g. behind_address h k (omega arith)) ∙ ap At n
+      one_strays xs (drop address ms) address (i - address) (omega arith) (from_address i a ∙ e) (λ k g. behind_address h k (omega arith)) ∙ ap (λ (j : ℕ). Some j) n
 
 -- What the answer tells of the test and of the place.
-pub strayed_at : (address : ℕ) (xs : List ℕ) (ms : List Mark) {i : ℕ} → strayed address xs ms ≡ At i → (addressed xs ms ≡ false) × (astray address xs ms ≡ i)
+pub strayed_at : (address : ℕ) (xs : List ℕ) (ms : List Mark) {i : ℕ} → strayed address xs ms ≡ Some i → (addressed xs ms ≡ false) × (astray address xs ms ≡ i)
 strayed_at address xs ms {i} e = go (addressed xs ms) e
   where
-    go : (t : Bool) → pick t Nowhere (At (astray address xs ms)) ≡ At i → (t ≡ false) × (astray address xs ms ≡ i)
+    go : (t : Bool) → pick t None (Some (astray address xs ms)) ≡ Some i → (t ≡ false) × (astray address xs ms ≡ i)
     go true e = let z : ◌≡◌ {A = ℕ} 0 1 = cc in absurd (omega arith)
     go false e = (refl, cc)
 
-pub strayed_nowhere : (address : ℕ) (xs : List ℕ) (ms : List Mark) → strayed address xs ms ≡ Nowhere → addressed xs ms ≡ true
+pub strayed_nowhere : (address : ℕ) (xs : List ℕ) (ms : List Mark) → strayed address xs ms ≡ None → addressed xs ms ≡ true
 strayed_nowhere address xs ms e = go (addressed xs ms) e
   where
-    go : (t : Bool) → pick t Nowhere (At (astray address xs ms)) ≡ Nowhere → t ≡ true
+    go : (t : Bool) → pick t None (Some (astray address xs ms)) ≡ None → t ≡ true
     go true e = refl
     go false e = let z : ◌≡◌ {A = ℕ} 0 1 = cc in absurd (omega arith)
 
@@ -271,13 +279,13 @@ not_landed s address symbols h =
     record { last = refl; low = omega arith; ahead = omega arith; more = omega arith; inside = omega arith; same = refl; landed = λ k a b. absurd (omega arith) }
 
 -- Behind the last byte there are no positions.
-pub behind_strays : (s : List ℕ) (address : ℕ) (symbols : List ℕ) → 0 < length symbols → length s ≤ address → strayed address symbols (drop address (marks start s)) ≡ At address
+pub behind_strays : (s : List ℕ) (address : ℕ) (symbols : List ℕ) → 0 < length symbols → length s ≤ address → strayed address symbols (drop address (marks start s)) ≡ Some address
 behind_strays s address symbols h g =
     strays_at (marks start s) address symbols address (omega arith) (omega arith)
     (ap is_position (get_or-eq_default (marks start s) Structure {n = address} (rw length_marks g))) (λ k a b. absurd (omega arith))
 
 module _ {s : List ℕ} {address : ℕ} {symbols : List ℕ} {end from at : ℕ} {place : Place} {seen : Seen} (l : Landing s address symbols end from at place seen) where
-  strays_here : lands (marks start s) from ≡ false → At from ≡ strayed address symbols (drop address (marks start s))
+  strays_here : lands (marks start s) from ≡ false → Some from ≡ strayed address symbols (drop address (marks start s))
   strays_here e = sym (strays_at (marks start s) address symbols from l.low (omega (arith, l.last, l.more)) e l.landed)
 
   module _ {k : Mark} {first to : ℕ} {place' : Place} {seen' : Seen} (r : Stretch s at place seen k first to place' seen') where
@@ -287,7 +295,7 @@ module _ {s : List ℕ} {address : ℕ} {symbols : List ℕ} {end from at : ℕ}
     stretch : Row (marks start s) first to k (marks (here place' seen') (drop to s))
     stretch = record { ahead = omega (arith, r.some); same = row_past before }
 
-    pub lands_not : from < first → At from ≡ strayed address symbols (drop address (marks start s))
+    pub lands_not : from < first → Some from ≡ strayed address symbols (drop address (marks start s))
     lands_not h = strays_here (ap is_position (row_at before from l.ahead h))
 
     lands_through : first ≤ from → AllLand (marks start s) address to
@@ -297,7 +305,7 @@ module _ {s : List ℕ} {address : ℕ} {symbols : List ℕ} {end from at : ℕ}
         go true e = l.landed j a (ltb-true j from e)
         go false e = ap is_position (row_at stretch j (omega (arith, ltb-false j from e)) b) ∙ r.position
 
-    pub lands_whole : first ≤ from → end ≤ to → Nowhere ≡ strayed address symbols (drop address (marks start s))
+    pub lands_whole : first ≤ from → end ≤ to → None ≡ strayed address symbols (drop address (marks start s))
     lands_whole h g = none_strays (marks start s) address symbols (λ j a b. lands_through h j a (omega (arith, b, g, l.last, r.inside)))
 
     lands_on : (from' : ℕ) → from ≤ from' → to ≤ from' → from' < end → AllLand (marks start s) address from' → Landing s address symbols end from' to place' seen'
@@ -312,13 +320,15 @@ module _ {s : List ℕ} {address : ℕ} {symbols : List ℕ} {end from at : ℕ}
           landed = f;
         }
 
-    pub lands_part : first ≤ from → from < to → to < end → Landing s address symbols end to to place' seen'
-    lands_part h g e = lands_on to (omega arith) (omega arith) e (lands_through h)
+    -- Up to the later of both places all have landed then.
+    pub lands_next : {from' : ℕ} → first ≤ from → to < end → from' ≡ max from to → Landing s address symbols end from' to place' seen'
+    lands_next {from'} h g e = lands_on from' (omega (arith, e)) (omega (arith, e)) (omega (arith, e, g, l.more)) (λ j a b. go j a b (ltb j from) refl)
+      where
+        go : (j : ℕ) → address ≤ j → j < from' → (t : Bool) → ltb j from ≡ t → lands (marks start s) j ≡ true
+        go j a b true q = l.landed j a (ltb-true j from q)
+        go j a b false q = lands_through h j a (omega (arith, e, b, ltb-false j from q))
 
-    pub lands_later : to ≤ from → Landing s address symbols end from to place' seen'
-    lands_later h = lands_on from (omega arith) h l.more l.landed
-
-  pub lands_nowhere : marks (here place seen) (drop at s) ≡ replicate (length s - at) Structure → At from ≡ strayed address symbols (drop address (marks start s))
+  pub lands_nowhere : marks (here place seen) (drop at s) ≡ replicate (length s - at) Structure → Some from ≡ strayed address symbols (drop address (marks start s))
   lands_nowhere e =
       strays_here
       (sym (from_address (marks start s) at from l.ahead)

@@ -5,13 +5,12 @@ use mathlib.Core.List.{List, append_assoc}
 use mathlib.Core.Path.{◌≡◌, ap, ◌∙◌}
 use native.Mathlib.Omega.{arith}
 use lib.ListN.{length, length-append}
-use Rattle.content.specs.Content.{verdict}
+use Rattle.content.specs.Content.{good, verdict}
 use Rattle.content.specs.Strip.{strip}
 use Rattle.content.specs.Grammar.{Tree, lines_bytes, encode, good_tree, resolved, shape}
 use Rattle.content.specs.Tree.{tree_of}
 use Rattle.content.specs.StripLaws.{Printable, StripResolves, StripEnds, StripIsContent, StripTree, StripSameShape, StripOfStrip, StripLength, NameStays, NameReads}
 use Rattle.content.specs.declared.strip.Values.{Values}
-use Rattle.content.specs.declared.test.Verdict.TheVariants.{Good}
 use Rattle.content.proofs.Good.{good_tree_tells}
 use Rattle.content.proofs.Laws.{correct, complete, read_back, no_values}
 use Rattle.content.proofs.Name.{named, name_piece, regrouped}
@@ -29,7 +28,7 @@ strip_resolves v s e = let t = correct s e in rw t.1 at (strip_encode v (tree_of
 pub strip_ends : StripEnds
 strip_ends v s e = (lines_bytes (resolved v (tree_of s)), strip_resolves v s e)
 
-tree_good : (v : Values) (s : List ℕ) → Printable v → verdict s ≡ Good → good_tree (resolved v (tree_of s)) ≡ true
+tree_good : (v : Values) (s : List ℕ) → Printable v → verdict s ≡ good → good_tree (resolved v (tree_of s)) ≡ true
 tree_good v s p e = resolved_good v (tree_of s) p (correct s e).0
 
 pub strip_is_content : StripIsContent

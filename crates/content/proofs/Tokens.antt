@@ -5,6 +5,9 @@ use mathlib.Core.Bool.{Bool, true, false}
 use mathlib.Core.List.{List, [], ◌∷◌, ◌++◌, append-nil}
 use mathlib.Core.Logic.{◌⊎◌, inl, inr}
 use mathlib.Core.Path.{◌≡◌, refl, sym, ◌∙◌, ap, subst}
+use Rattle.std.specs.Prelude.{None, Option, Some}
+use native.Mathlib.Numerals.{one-add}
+use Rattle.std.specs.List.{prefix_len}
 use native.Mathlib.Omega.{arith}
 use borrow.Author.Tests.{eqb-true}
 use lib.Dec.{eqb, ltb}
@@ -12,13 +15,12 @@ use lib.ListN.{length, get_or, drop, replicate, length-append, length-drop}
 use lib.Seq.{drop-drop, get_or-drop}
 use Rattle.frame.specs.Ground.{pick}
 use Rattle.frame.proofs.Ground.{never, drop_next, pick_case, stands}
-use Rattle.content.specs.Byte.{kind_of, code_of, is_character, is_code, is_count, is_expansion, in_front}
+use Rattle.content.specs.Byte.{kind_of, code_of, is_character, is_code, is_count, is_expansion}
 use Rattle.content.specs.Item.{behind, counted, one_more, characters_end, codes_end, enclosed, open_line, open_block, open_field, opens, content_token, line_token, block_token, field_token, code_token, date_token, opening, opened, piece_at, token_at}
 use Rattle.content.specs.Machine.{in_code as in-code-step, Spot, Inside, Font, TabulationCount, TabulationEnd, CounterNumber, CounterEnd, Mode, Reading, Bad, step, stepped, with_line, with_field}
 use Rattle.content.specs.Position.{item_mark, mark_of, marks}
 use Rattle.content.specs.Strip.{item_shows, shown_by, strip_from, where_good}
-use Rattle.content.specs.declared.byte.Coded.{Coded}
-use Rattle.content.specs.declared.byte.Coded.TheVariants as coded
+use Rattle.content.specs.declared.byte.Code.{Code}
 use Rattle.content.specs.declared.byte.Kind.{Kind}
 use Rattle.content.specs.declared.byte.Kind.TheVariants as kind
 use Rattle.content.specs.declared.item.Item.{Item}
@@ -70,8 +72,8 @@ Tells each End s at place seen (token.Unfit p) = Fails each s at place seen p
 -- ---- Bytes in a row that leave the machine where it is.
 record Row (holds : ℕ → Bool) (m : Mode) (k : Mark) (xs : List ℕ) : Type 0 where
   bytes : List ℕ
-  split : xs ≡ bytes ++ drop (in_front holds xs) xs
-  size : length bytes ≡ in_front holds xs
+  split : xs ≡ bytes ++ drop (prefix_len holds xs) xs
+  size : length bytes ≡ prefix_len holds xs
   leads : run m bytes ≡ m
   marked : marks m bytes ≡ replicate (length bytes) k
   shown : ((b : ℕ) (v : Values) → holds b ≡ true → where_good m (shown_by v m b) ≡ b ∷ []) → (v : Values) → strip_from v m bytes ≡ bytes
@@ -85,18 +87,18 @@ module _ (holds : ℕ → Bool) (m : Mode) (k : Mark) (stays : (b : ℕ) → hol
       go true e r =
           record {
             bytes = b ∷ r.bytes;
-            split = rw e (ap (◌∷◌ b) r.split);
-            size = rw e (ap suc r.size);
+            split = rw (e, one-add) (ap (◌∷◌ b) r.split);
+            size = rw e (ap suc r.size ∙ sym (one-add (prefix_len holds xs)));
             leads = rw (stays b e) r.leads;
             marked = rw (stays b e, marks-it b e, r.marked);
             shown = λ h v. rw (stays b e, h b v e, r.shown h v);
           }
       go false e r = record { bytes = []; split = rw e; size = rw e; leads = refl; marked = refl; shown = λ h v. refl }
 
-  abbrev row-path : (s : List ℕ) (at n : ℕ) → at ≤ length s → n ≡ at + in_front holds (drop at s) → Path s at m n m k
+  abbrev row-path : (s : List ℕ) (at n : ℕ) → at ≤ length s → n ≡ at + prefix_len holds (drop at s) → Path s at m n m k
   row-path s at n h e =
       let r : Row holds m k (drop at s) = row (drop at s) in
-      let f : drop n s ≡ drop (in_front holds (drop at s)) (drop at s) = ap (λ (i : ℕ). drop i s) e ∙ sym (drop-drop (in_front holds (drop at s)) at s) in
+      let f : drop n s ≡ drop (prefix_len holds (drop at s)) (drop at s) = ap (λ (i : ℕ). drop i s) e ∙ sym (drop-drop (prefix_len holds (drop at s)) at s) in
       let l : length (drop at s) ≡ length r.bytes + length (drop n s) = ap length (r.split ∙ ap (λ (t : List ℕ). r.bytes ++ t) (sym f)) ∙ length-append r.bytes (drop n s) in
       record {
         bytes = r.bytes;
@@ -117,9 +119,9 @@ field_stays seen b e = rw (character_is_no_mark b 0x12 e (omega arith), e)
 date_stays : (seen : Seen) (b : ℕ) → is_code (code_of b) ≡ true → step (here Date seen) b ≡ here Date seen
 date_stays seen b e = rw (code_is_no_mark b e) (go (code_of b) e)
   where
-    go : (k : Coded) → is_code k ≡ true → in-code-step k seen ≡ here Date seen
-    go (coded.Code c) e = refl
-    go coded.Not e = never e
+    go : (k : Option Code) → is_code k ≡ true → in-code-step k seen ≡ here Date seen
+    go (Some c) e = refl
+    go None e = never e
 
 block_marks : (seen : Seen) (b : ℕ) → is_character b ≡ true → mark_of (here Block seen) b ≡ Character
 unfolding mark_of
@@ -130,7 +132,7 @@ unfolding mark_of
 field_marks seen b e = rw e
 
 -- One byte in a row makes the row not empty.
-row_ahead : (holds : ℕ → Bool) (s : List ℕ) (at : ℕ) → at < length s → holds (get_or s at 0) ≡ true → at < at + in_front holds (drop at s)
+row_ahead : (holds : ℕ → Bool) (s : List ℕ) (at : ℕ) → at < length s → holds (get_or s at 0) ≡ true → at < at + prefix_len holds (drop at s)
 row_ahead holds s at h e = rw (drop_next s at h, e) (omega arith)
 
 pub kind_no_character : (b : ℕ) (k : Kind) → kind_of b ≡ k → (kind.Character ≡ k → ⊥) → is_character b ≡ false
@@ -275,9 +277,9 @@ module _ (each : Bool) (End : Type 0) (s : List ℕ) (at : ℕ) (inside : at ≤
   date_closes : eqb (get_or s at 0) 0x1B ≡ true → Goes each s at Date seen item.DateCloses (at + 1)
   date_closes t = one Date item.DateCloses (rw t) (structure_in _ _ refl) (λ b v. rw t)
 
-  in_code : (k : Coded) → eqb (get_or s at 0) 0x1B ≡ false → code_of (get_or s at 0) ≡ k → Tells each End s at Date seen (code_token at k)
-  in_code (coded.Code c) h e = one Date (item.Date c) (rw (h, e)) (structure_in _ _ refl) (λ b v. rw (h, e) (append-nil _))
-  in_code coded.Not h e = none Date (rw (h, e))
+  in_code : (k : Option Code) → eqb (get_or s at 0) 0x1B ≡ false → code_of (get_or s at 0) ≡ k → Tells each End s at Date seen (code_token at k)
+  in_code (Some c) h e = one Date (item.Date c) (rw (h, e)) (structure_in _ _ refl) (λ b v. rw (h, e) (append-nil _))
+  in_code None h e = none Date (rw (h, e))
 
   in_date : Tells each End s at Date seen (date_token s at)
   unfolding date_token
@@ -291,7 +293,7 @@ unfolding codes_end
 codes_path s at seen h =
     row-path (λ b. is_code (code_of b)) (here Date seen) Structure (date_stays seen) (λ b e. structure_in _ b refl) s at (codes_end s at) h refl
 
-pub codes_inside : (s : List ℕ) (at : ℕ) → at ≤ length s → codes_end s at ≤ length s
+codes_inside : (s : List ℕ) (at : ℕ) → at ≤ length s → codes_end s at ≤ length s
 codes_inside s at h = (codes_path s at (record { lines = 0; fields = 0 }) h).inside
 
 pub codes_ahead : (s : List ℕ) (at : ℕ) → at ≤ codes_end s at
@@ -303,31 +305,28 @@ pub field_path : (s : List ℕ) (at : ℕ) (seen : Seen) → at ≤ length s →
 unfolding characters_end
 field_path s at seen h = row-path is_character (here Field seen) FieldCharacter (field_stays seen) (field_marks seen) s at (characters_end s at) h refl
 
-pub characters_inside : (s : List ℕ) (at : ℕ) → at ≤ length s → characters_end s at ≤ length s
-characters_inside s at h = (field_path s at (record { lines = 0; fields = 0 }) h).inside
-
 pub characters_ahead : (s : List ℕ) (at : ℕ) → at ≤ characters_end s at
 unfolding characters_end
 characters_ahead s at = omega arith
 
 -- What stands behind a row of bytes is none of them.
-row_ends : (holds : ℕ → Bool) (xs : List ℕ) → holds 0 ≡ false → holds (get_or xs (in_front holds xs) 0) ≡ false
+row_ends : (holds : ℕ → Bool) (xs : List ℕ) → holds 0 ≡ false → holds (get_or xs (prefix_len holds xs) 0) ≡ false
 row_ends holds [] z = z
 row_ends holds (b ∷ xs) z = go (holds b) refl (row_ends holds xs z)
   where
-    go : (t : Bool) → holds b ≡ t → holds (get_or xs (in_front holds xs) 0) ≡ false → holds (get_or (b ∷ xs) (in_front holds (b ∷ xs)) 0) ≡ false
-    go true e h = rw e h
+    go : (t : Bool) → holds b ≡ t → holds (get_or xs (prefix_len holds xs) 0) ≡ false → holds (get_or (b ∷ xs) (prefix_len holds (b ∷ xs)) 0) ≡ false
+    go true e h = rw (e, one-add) h
     go false e h = rw e e
 
 pub no_character_behind : (s : List ℕ) (at : ℕ) → is_character (get_or s (characters_end s at) 0) ≡ false
 unfolding characters_end is_character
 no_character_behind s at =
-    ap is_character (sym (get_or-drop at s (in_front is_character (drop at s)) 0)) ∙ row_ends is_character (drop at s) refl
+    ap is_character (sym (get_or-drop at s (prefix_len is_character (drop at s)) 0)) ∙ row_ends is_character (drop at s) refl
 
 pub no_code_behind : (s : List ℕ) (at : ℕ) → is_code (code_of (get_or s (codes_end s at) 0)) ≡ false
 unfolding codes_end code_of
 no_code_behind s at =
-    ap (λ (b : ℕ). is_code (code_of b)) (sym (get_or-drop at s (in_front (λ b. is_code (code_of b)) (drop at s)) 0)) ∙ row_ends (λ b. is_code (code_of b)) (drop at s) refl
+    ap (λ (b : ℕ). is_code (code_of b)) (sym (get_or-drop at s (prefix_len (λ b. is_code (code_of b)) (drop at s)) 0)) ∙ row_ends (λ b. is_code (code_of b)) (drop at s) refl
 
 -- A mark stands there where the kind of the byte is one's.
 pub field_stands : (s : List ℕ) (at : ℕ) → kind_of (get_or s at 0) ≡ kind.Field → at < length s
@@ -352,10 +351,10 @@ date_is_structure : (s : List ℕ) (at : ℕ) (c : ℕ) (e : Item) → date_toke
 unfolding date_token
 date_is_structure s at c e f = go (eqb (get_or s at 0) 0x1B) (code_of (get_or s at 0)) f
   where
-    go : (t : Bool) (k : Coded) → pick t (token.Read item.DateCloses (at + 1)) (code_token at k) ≡ token.Read e c → item_mark e ≡ Structure
+    go : (t : Bool) (k : Option Code) → pick t (token.Read item.DateCloses (at + 1)) (code_token at k) ≡ token.Read e c → item_mark e ≡ Structure
     go true k f = let g : item.DateCloses ≡ e = cc in ap item_mark (sym g)
-    go false (coded.Code x) f = let g : item.Date x ≡ e = cc in ap item_mark (sym g)
-    go false coded.Not f = let z : ◌≡◌ {A = ℕ} 0 1 = cc in absurd (omega arith)
+    go false (Some x) f = let g : item.Date x ≡ e = cc in ap item_mark (sym g)
+    go false None f = let z : ◌≡◌ {A = ℕ} 0 1 = cc in absurd (omega arith)
 
 codes_passed : (End : Type 0) (s : List ℕ) (at : ℕ) (seen : Seen) → at ≤ length s → Tells false End s at Date seen (date_token s (codes_end s at))
 codes_passed End s at seen h =

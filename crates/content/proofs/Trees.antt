@@ -4,6 +4,7 @@ use Prim.Native.Nat.{ℕ, ◌+◌, ◌≤◌}
 use mathlib.Core.Bool.{Bool, true, false}
 use mathlib.Core.List.{List, [], ◌∷◌, ◌++◌, append_assoc}
 use mathlib.Core.Path.{◌≡◌, refl, ap, ◌∙◌, sym}
+use Rattle.std.specs.Prelude.{None, Option, Some}
 use native.Mathlib.Omega.{arith}
 use borrow.Author.Tests.{eqb-true, ltb-true}
 use lib.Dec.{eqb, ltb}
@@ -17,8 +18,7 @@ use Rattle.content.specs.Tree.{Rest, before_at, before_inside, before_in_block, 
 use Rattle.content.specs.Laws.{Correct}
 use Rattle.content.specs.declared.byte.Kind.{Kind}
 use Rattle.content.specs.declared.byte.Kind.TheVariants as kind
-use Rattle.content.specs.declared.byte.Coded.{Coded}
-use Rattle.content.specs.declared.byte.Coded.TheVariants as coded
+use Rattle.content.specs.declared.byte.Code.{Code}
 use Rattle.content.specs.declared.item.Place.{Place}
 use Rattle.content.specs.declared.item.Place.TheVariants as place
 use Rattle.content.specs.declared.item.Seen.{Seen}
@@ -149,7 +149,7 @@ block_has_no_letters seen (b ∷ s) = by_kind (kind_of b)
 abbrev in_field_by : Bool → Bool → Seen → Mode
 in_field_by x y seen = pick x (Reading (machine.Inside place.Block) seen) (pick y (Reading (machine.Inside place.Field) seen) Bad)
 
-abbrev in_date_by : Bool → Coded → Seen → Mode
+abbrev in_date_by : Bool → Option Code → Seen → Mode
 in_date_by x k seen = pick x (Reading (machine.Inside place.Block) seen) (in_code k seen)
 
 -- A byte before bytes from which on all is right.
@@ -202,14 +202,14 @@ module _ (s : List ℕ) (right : RightFrom s) (seen : Seen) (fits : Fits seen) w
   in_field_read false false b p q e = absurd (bad_is_not_done s e)
 
   in_date_read :
-      (x : Bool) (k : Coded) (b : ℕ) → eqb b 0x1B ≡ x → code_of b ≡ k → run (in_date_by x k seen) s ≡ Done →
+      (x : Bool) (k : Option Code) (b : ℕ) → eqb b 0x1B ≡ x → code_of b ≡ k → run (in_date_by x k seen) s ≡ Done →
       RightIn place.Date seen (b ∷ s) (pick x (rest (in_date_by x k seen) s) (with_letter b (rest (in_date_by x k seen) s)))
   in_date_read true k b p q e =
       rw (eqb-true b 0x1B p, block_has_no_letters seen s) (refl, (s, refl, right (machine.Inside place.Block) seen fits e))
-  in_date_read false (coded.Code c) b p q e =
+  in_date_read false (Some c) b p q e =
       let h = right (machine.Inside place.Date) seen fits e in
       (true_both (is_code (code_of b)) _ (rw q) h.0, (h.1.0, ap (λ (t : List ℕ). b ∷ t) h.1.1, h.1.2))
-  in_date_read false coded.Not b p q e = absurd (bad_is_not_done s e)
+  in_date_read false None b p q e = absurd (bad_is_not_done s e)
 
   inside_read :
       (p : Place) (b : ℕ) → run (inside p b seen) s ≡ Done → RightIn p seen (b ∷ s) (before_inside p b (rest (inside p b seen) s))

@@ -1,21 +1,21 @@
 -- The content test's way through the bytes: at each place, what is left gives the verdict. Each law is one step of the test, said
 -- over the byte that was read there and what a test of it gave.
 use Prim.Native.Nat.{ℕ, ◌+◌, ◌≤◌, ◌<◌}
-use mathlib.Core.Bool.{Bool, true, false, not}
+use mathlib.Core.Bool.{Bool, true, false}
 use mathlib.Core.List.{List}
 use mathlib.Core.Logic.{inl, inr}
 use mathlib.Core.Path.{◌≡◌, refl, sym, ◌∙◌, ap, subst}
+use Rattle.std.specs.Prelude.{Err, None, Option, Some}
 use native.Mathlib.Omega.{arith}
-use borrow.Author.Tests.{ltb-true, lt-ltb, le-ltb, ne_eqb, not-true, not-false}
+use borrow.Author.Tests.{ltb-true, lt-ltb, le-ltb, ne_eqb}
 use lib.Dec.{eqb, ltb}
 use lib.ListN.{length, get_or, drop, drop_of_length-le}
 use Rattle.content.specs.Byte.{kind_of, code_of, is_code, is_expansion, is_count}
-use Rattle.content.specs.Content.{read, verdict}
+use Rattle.content.specs.Content.{good, read, verdict}
 use Rattle.content.specs.Item.{behind, characters_end, closing, codes_end, counted, enclosed, item_at, passed, whole_field}
 use Rattle.content.specs.Machine.{Spot, Inside, Font, Mode, Reading, Done, Bad, in_code, stepped, with_field, with_line}
 use Rattle.content.specs.Position.{mark_of}
-use Rattle.content.specs.declared.byte.Coded.{Coded}
-use Rattle.content.specs.declared.byte.Coded.TheVariants as coded
+use Rattle.content.specs.declared.byte.Code.{Code}
 use Rattle.content.specs.declared.byte.Kind.{Kind}
 use Rattle.content.specs.declared.byte.Kind.TheVariants as kind
 use Rattle.content.specs.declared.item.Item.{Item}
@@ -26,7 +26,6 @@ use Rattle.content.specs.declared.item.Seen.{Seen}
 use Rattle.content.specs.declared.item.Token.{Token}
 use Rattle.content.specs.declared.item.Token.TheVariants as token
 use Rattle.content.specs.declared.position.Mark.{Mark}
-use Rattle.content.specs.declared.test.Verdict.TheVariants.{Good, Unfit}
 use Rattle.frame.specs.Ground.{pick}
 use Rattle.frame.proofs.Ground.{drop_next, never, pick_case}
 use Rattle.content.proofs.Bytes.{told}
@@ -55,7 +54,7 @@ walks {s} {at} {spot} {spot'} {seen} {seen'} a e =
     let m = steps s at spot seen (Reading spot' seen') e (reading_is_good spot' seen') in
     record { inside = omega (arith, m.0); same = a.same ∙ m.1 }
 
-fails : {s : List ℕ} {at : ℕ} {spot : Spot} {seen : Seen} → At s (Reading spot seen) at → stepped spot (get_or s at 0) seen ≡ Bad → Unfit at ≡ verdict s
+fails : {s : List ℕ} {at : ℕ} {spot : Spot} {seen : Seen} → At s (Reading spot seen) at → stepped spot (get_or s at 0) seen ≡ Bad → Err at ≡ verdict s
 fails {s} {at} {spot} {seen} a e = sym (a.same ∙ stuck_read s at spot seen e)
 
 -- ---- The first line's 0Ah.
@@ -67,22 +66,22 @@ pub first_line : (s : List ℕ) {b : ℕ} → b ≡ get_or s 0 0 → b ≡ 0x0A 
 unfolding with_line
 first_line s e l = walks (start_at s) (rw (← e, l))
 
-pub no_line : (s : List ℕ) {b : ℕ} → b ≡ get_or s 0 0 → (b ≡ 0x0A → ⊥) → Unfit 0 ≡ verdict s
+pub no_line : (s : List ℕ) {b : ℕ} → b ≡ get_or s 0 0 → (b ≡ 0x0A → ⊥) → Err 0 ≡ verdict s
 no_line s {b} e n = fails (start_at s) (rw (← e, ne_eqb b 0x0A n))
 
 -- ---- A block's expansion and font.
 module _ {s : List ℕ} {at : ℕ} {seen : Seen} {b : ℕ} {r : Bool} where
-  pub expansion : At s (here Line seen) at → b ≡ get_or s at 0 → r ≡ is_expansion b → not r ≡ false → At s (Reading (Font b) seen) (at + 1)
-  expansion a e t h = walks a (rw (← e, ← t, not-false r h))
+  pub expansion : At s (here Line seen) at → b ≡ get_or s at 0 → r ≡ is_expansion b → r ≡ true → At s (Reading (Font b) seen) (at + 1)
+  expansion a e t h = walks a (rw (← e, ← t, h))
 
-  pub no_expansion : At s (here Line seen) at → b ≡ get_or s at 0 → r ≡ is_expansion b → not r ≡ true → Unfit at ≡ verdict s
-  no_expansion a e t h = fails a (rw (← e, ← t, not-true r h))
+  pub no_expansion : At s (here Line seen) at → b ≡ get_or s at 0 → r ≡ is_expansion b → r ≡ false → Err at ≡ verdict s
+  no_expansion a e t h = fails a (rw (← e, ← t, h))
 
-  pub font : {x : ℕ} → At s (Reading (Font x) seen) at → b ≡ get_or s at 0 → r ≡ is_count b → not r ≡ false → At s (here Block seen) (at + 1)
-  font a e t h = walks a (rw (← e, ← t, not-false r h))
+  pub font : {x : ℕ} → At s (Reading (Font x) seen) at → b ≡ get_or s at 0 → r ≡ is_count b → r ≡ true → At s (here Block seen) (at + 1)
+  font a e t h = walks a (rw (← e, ← t, h))
 
-  pub no_font : {x : ℕ} → At s (Reading (Font x) seen) at → b ≡ get_or s at 0 → r ≡ is_count b → not r ≡ true → Unfit at ≡ verdict s
-  no_font a e t h = fails a (rw (← e, ← t, not-true r h))
+  pub no_font : {x : ℕ} → At s (Reading (Font x) seen) at → b ≡ get_or s at 0 → r ≡ is_count b → r ≡ false → Err at ≡ verdict s
+  no_font a e t h = fails a (rw (← e, ← t, h))
 
 -- ---- An item, or what ends the block.
 along : {s : List ℕ} {at n : ℕ} {spot spot' : Spot} {seen seen' : Seen} {k : Mark} → At s (Reading spot seen) at → Path s at (Reading spot seen) n (Reading spot' seen') k → At s (Reading spot' seen') n
@@ -92,7 +91,7 @@ along {spot' = spot'} {seen' = seen'} a p = record { inside = p.inside; same = a
 abbrev Passes : List ℕ → ℕ → Seen → Token → Type 0
 Passes s at seen (token.Read i next) = (at < next) × (seen.fields ≤ 10 → (passed i seen).fields ≤ 10) × At s (here Block (passed i seen)) next
 Passes s at seen token.Ends = Closed s at seen
-Passes s at seen (token.Unfit p) = Unfit p ≡ verdict s
+Passes s at seen (token.Unfit p) = Err p ≡ verdict s
 
 module _ (s : List ℕ) (at : ℕ) (seen : Seen) (a : At s (here Block seen) at) where
   -- Behind what stands in an item its mark, or what can't stand there.
@@ -130,16 +129,16 @@ module _ (s : List ℕ) (at : ℕ) (seen : Seen) (a : At s (here Block seen) at)
       (λ m. rw m (go (code_of (get_or s (codes_end s (at + 1)) 0)) (no_code_behind s (at + 1))))
       (λ f. f)
     where
-      go : (k : Coded) → is_code k ≡ false → in_code k seen ≡ Bad
-      go (coded.Code c) f = never (sym f)
-      go coded.Not f = refl
+      go : (k : Option Code) → is_code k ≡ false → in_code k seen ≡ Bad
+      go (Some c) f = never (sym f)
+      go None f = refl
 
   three_pass : (fits : Bool) (mark : ℕ) (i : Item) → behind i ≡ Block → counted i seen ≡ seen → passed i seen ≡ seen
       → Tells false (Closing (kind_of (get_or s at 0))) s at Block seen (enclosed s at fits mark i) → Passes s at seen (enclosed s at fits mark i)
   unfolding enclosed
   three_pass fits mark i p q r g = go fits (eqb (get_or s (at + 2) 0) mark) g
     where
-      failed : (n : ℕ) → Fails false s at Block seen n → Unfit n ≡ verdict s
+      failed : (n : ℕ) → Fails false s at Block seen n → Err n ≡ verdict s
       failed n f = sym (a.same ∙ path_read f.path (reading_is_good f.spot seen) ∙ stuck_read s n f.spot seen f.stuck)
 
       went : (n : ℕ) → Goes false s at Block seen i n → Passes s at seen (token.Read i n)
@@ -164,21 +163,21 @@ module _ (s : List ℕ) (at : ℕ) (seen : Seen) (a : At s (here Block seen) at)
       (g.ahead, (λ h. h), along a g.path)
   passes kind.Other e = fails a (rw e)
 
-module _ {s : List ℕ} {at : ℕ} {seen : Seen} {b : ℕ} {k : Kind} {t : Token} where
-  passes_found : At s (here Block seen) at → b ≡ get_or s at 0 → k ≡ kind_of b → t ≡ item_at s at k seen → Passes s at seen t
-  passes_found a e f g = subst (Passes s at seen) (sym g) (passes s at seen a k (sym (f ∙ ap kind_of e)))
+module _ {s : List ℕ} {at : ℕ} {seen : Seen} {t : Token} where
+  passes_found : At s (here Block seen) at → t ≡ item_at s at (kind_of (get_or s at 0)) seen → Passes s at seen t
+  passes_found a g = subst (Passes s at seen) (sym g) (passes s at seen a (kind_of (get_or s at 0)) refl)
 
-  pub next_item : {i : Item} {next : ℕ} {seen' : Seen} → At s (here Block seen) at → seen.fields ≤ 10 → b ≡ get_or s at 0 → k ≡ kind_of b → t ≡ item_at s at k seen → t ≡ token.Read i next
+  pub next_item : {i : Item} {next : ℕ} {seen' : Seen} → At s (here Block seen) at → seen.fields ≤ 10 → t ≡ item_at s at (kind_of (get_or s at 0)) seen → t ≡ token.Read i next
       → seen' ≡ passed i seen → (at < next) × (seen'.fields ≤ 10) × At s (here Block seen') next
-  next_item {i} {next} {seen'} a few e f g r q =
-      let p : Passes s at seen (token.Read i next) = subst (Passes s at seen) r (passes_found a e f g) in
+  next_item {i} {next} {seen'} a few g r q =
+      let p : Passes s at seen (token.Read i next) = subst (Passes s at seen) r (passes_found a g) in
       (p.0, subst (λ (x : Seen). x.fields ≤ 10) (sym q) (p.1 few), subst (λ (x : Seen). At s (here Block x) next) (sym q) p.2)
 
-  pub no_item : {p : ℕ} → At s (here Block seen) at → b ≡ get_or s at 0 → k ≡ kind_of b → t ≡ item_at s at k seen → t ≡ token.Unfit p → Unfit p ≡ verdict s
-  no_item {p} a e f g r = subst (Passes s at seen) r (passes_found a e f g)
+  pub no_item : {p : ℕ} → At s (here Block seen) at → t ≡ item_at s at (kind_of (get_or s at 0)) seen → t ≡ token.Unfit p → Err p ≡ verdict s
+  no_item {p} a g r = subst (Passes s at seen) r (passes_found a g)
 
-  pub closed : At s (here Block seen) at → b ≡ get_or s at 0 → k ≡ kind_of b → t ≡ item_at s at k seen → t ≡ token.Ends → Closed s at seen
-  closed a e f g r = subst (Passes s at seen) r (passes_found a e f g)
+  pub closed : At s (here Block seen) at → t ≡ item_at s at (kind_of (get_or s at 0)) seen → t ≡ token.Ends → Closed s at seen
+  closed a g r = subst (Passes s at seen) r (passes_found a g)
 
 -- ---- What ends a block is an expansion where the test for one says so; else it is a line's 0Ah, unless it is the 0Dh.
 apart : (t : Bool) → t ≡ true → t ≡ false → ⊥
@@ -196,9 +195,9 @@ line_kind b (inr (inl e)) f n = absurd (n (told b kind.End e))
 line_kind b (inr (inr e)) f n = absurd (apart (is_expansion b) (told b kind.Expansion e) f)
 
 module _ {s : List ℕ} {at : ℕ} {seen : Seen} {b : ℕ} where
-  pub next_block : {r : Bool} → Closed s at seen → b ≡ get_or s at 0 → r ≡ is_expansion b → not r ≡ false → At s (here Line seen) at
+  pub next_block : {r : Bool} → Closed s at seen → b ≡ get_or s at 0 → r ≡ is_expansion b → r ≡ true → At s (here Line seen) at
   next_block {r} c e t h =
-      let x : is_expansion (get_or s at 0) ≡ true = rw (← e) (sym t ∙ not-false r h) in
+      let x : is_expansion (get_or s at 0) ≡ true = rw (← e) (sym t ∙ h) in
       let font : Mode = Reading (Font (get_or s at 0)) seen in
       let m = steps s at (Inside Block) seen font (rw (expansion_kind (get_or s at 0) c.kind x)) (reading_is_good (Font (get_or s at 0)) seen) in
       let n = steps s at (Inside Line) seen font (rw x) (reading_is_good (Font (get_or s at 0)) seen) in
@@ -209,23 +208,23 @@ module _ {s : List ℕ} {at : ℕ} {seen : Seen} {b : ℕ} where
   unfolding kind_of
   at_end c e d = steps s at (Inside Block) seen Done (rw (← e, d)) (λ never. let z : ◌≡◌ {A = ℕ} 0 1 = cc in omega arith)
 
-  pub ends : Closed s at seen → b ≡ get_or s at 0 → b ≡ 0x0D → at + 1 ≡ length s → Good ≡ verdict s
+  pub ends : Closed s at seen → b ≡ get_or s at 0 → b ≡ 0x0D → at + 1 ≡ length s → good ≡ verdict s
   ends c e d l = sym (c.here.same ∙ (at_end c e d).1 ∙ ap (read (at + 1) Done) (drop_of_length-le s {i = at + 1} (omega arith)))
 
-  pub no_end : Closed s at seen → b ≡ get_or s at 0 → b ≡ 0x0D → (at + 1 ≡ length s → ⊥) → Unfit (at + 1) ≡ verdict s
+  pub no_end : Closed s at seen → b ≡ get_or s at 0 → b ≡ 0x0D → (at + 1 ≡ length s → ⊥) → Err (at + 1) ≡ verdict s
   no_end c e d n =
       let m = at_end c e d in
       sym (c.here.same ∙ m.1 ∙ ap (read (at + 1) Done) (drop_next s (at + 1) (omega (arith, m.0))))
 
 -- The 0Ah of another line, the fourth at the most.
 module _ {s : List ℕ} {at : ℕ} {seen : Seen} where
-  pub at_line : {b b' : ℕ} {r : Bool} → Closed s at seen → b ≡ get_or s at 0 → r ≡ is_expansion b → not r ≡ true → b' ≡ get_or s at 0 → (b' ≡ 0x0D → ⊥) → kind_of (get_or s at 0) ≡ kind.Line
-  at_line {b} {b'} {r} c e t h e' n = line_kind (get_or s at 0) c.kind (rw (← e) (sym t ∙ not-true r h)) (λ d. n (e' ∙ d))
+  pub at_line : {b b' : ℕ} {r : Bool} → Closed s at seen → b ≡ get_or s at 0 → r ≡ is_expansion b → r ≡ false → b' ≡ get_or s at 0 → (b' ≡ 0x0D → ⊥) → kind_of (get_or s at 0) ≡ kind.Line
+  at_line {b} {b'} {r} c e t h e' n = line_kind (get_or s at 0) c.kind (rw (← e) (sym t ∙ h)) (λ d. n (e' ∙ d))
 
   pub next_line : Closed s at seen → kind_of (get_or s at 0) ≡ kind.Line → seen.lines < 4 → At s (here Line (record { lines = seen.lines + 1; fields = seen.fields })) (at + 1)
   unfolding with_line
   next_line c e l = walks c.here (rw (e, lt-ltb seen.lines 4 l))
 
-  pub fifth_line : Closed s at seen → kind_of (get_or s at 0) ≡ kind.Line → 4 ≤ seen.lines → Unfit at ≡ verdict s
+  pub fifth_line : Closed s at seen → kind_of (get_or s at 0) ≡ kind.Line → 4 ≤ seen.lines → Err at ≡ verdict s
   unfolding with_line
   fifth_line c e l = fails c.here (rw (e, le-ltb seen.lines 4 l))

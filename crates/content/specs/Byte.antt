@@ -1,11 +1,11 @@
 -- What a single byte may be in a content, as document 01's list of items says it.
-use Rattle.std.specs.Prelude.{ℕ, suc, ◌-◌, Bool, true, false, List, [], ◌∷◌, eqb}
+use Rattle.std.specs.List.{prefix_len}
+use Rattle.std.specs.Prelude.{ℕ, ◌-◌, Bool, true, false, Option, None, Some, List, [], ◌∷◌, eqb}
 use Rattle.frame.specs.Ground.{pick, both, within}
 use Rattle.content.specs.declared.byte.Kind.{Kind}
 use Rattle.content.specs.declared.byte.Kind.TheVariants.{Line, End, Field, Date, Counter, Tabulation, Expansion, Character, Other}
 use Rattle.content.specs.declared.byte.Code.TheVariants.{Entry, Colon, Slash, Dot, Space}
-use Rattle.content.specs.declared.byte.Coded.{Coded}
-use Rattle.content.specs.declared.byte.Coded.TheVariants as coded
+use Rattle.content.specs.declared.byte.Code.{Code}
 
 -- 01, What a content is: "a character, 20h to 7Eh".
 unfoldable pub is_character : ℕ → Bool
@@ -24,14 +24,9 @@ abbrev pub all_characters : List ℕ → Bool
 all_characters [] = true
 all_characters (b ∷ s) = both (is_character b) (all_characters s)
 
--- How many bytes in a row hold a test, from the first on.
-abbrev pub in_front : (ℕ → Bool) → List ℕ → ℕ
-in_front holds [] = 0
-in_front holds (b ∷ s) = pick (holds b) (suc (in_front holds s)) 0
-
 -- How many characters stand in front: so the index of the first byte that is none.
 abbrev pub characters_in_front : List ℕ → ℕ
-characters_in_front s = in_front is_character s
+characters_in_front s = prefix_len is_character s
 
 -- 01, What a content is: the bytes that begin a line, end a content, enclose an item, begin a block, or are an item by themselves.
 unfoldable pub kind_of : ℕ → Kind
@@ -48,15 +43,19 @@ kind_of b =
 -- 01, What a content is: "Codes 55h 56h 57h are the three characters of the hour's entry, 58h to 5Ah the minute's, 5Bh to 5Dh
 -- the month's, 61h to 63h the day of month's; 70h is ":", 71h "/", 72h ".", 73h a space." What the entries are is handed in, a byte for
 -- each code from 55h on.
-unfoldable pub code_of : ℕ → Coded
+unfoldable pub code_of : ℕ → Option Code
 code_of b =
-    pick (within 0x55 0x5D b) (coded.Code (Entry (b - 0x55)))
-    (pick (within 0x61 0x63 b) (coded.Code (Entry (b - 0x55)))
-    (pick (eqb b 0x70) (coded.Code Colon)
-    (pick (eqb b 0x71) (coded.Code Slash)
-    (pick (eqb b 0x72) (coded.Code Dot)
-    (pick (eqb b 0x73) (coded.Code Space) coded.Not)))))
+    pick (within 0x55 0x5D b) (Some (Entry (b - 0x55)))
+    (pick (within 0x61 0x63 b) (Some (Entry (b - 0x55)))
+    (pick (eqb b 0x70) (Some Colon)
+    (pick (eqb b 0x71) (Some Slash)
+    (pick (eqb b 0x72) (Some Dot)
+    (pick (eqb b 0x73) (Some Space) None)))))
 
-abbrev pub is_code : Coded → Bool
-is_code (coded.Code c) = true
-is_code coded.Not = false
+abbrev pub is_code : Option Code → Bool
+is_code (Some c) = true
+is_code None = false
+
+-- How many codes stand in front.
+abbrev pub codes_in_front : List ℕ → ℕ
+codes_in_front s = prefix_len (λ b. is_code (code_of b)) s

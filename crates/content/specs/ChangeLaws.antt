@@ -3,19 +3,16 @@ use Rattle.std.specs.Prelude.{ℕ, ◌+◌, ◌≤◌, ◌<◌, true, false, Lis
 use Rattle.frame.specs.Ground.{all}
 use Rattle.content.specs.Byte.{is_character, all_characters}
 use Rattle.content.specs.Machine.{Mode, start, step}
-use Rattle.content.specs.Content.{verdict, is_content}
+use Rattle.content.specs.Content.{good, verdict, is_content}
 use Rattle.content.specs.Position.{at_fields, marks, mark_of, is_position, is_field_position, field_positions}
 use Rattle.content.specs.Edit as edit
-use Rattle.content.specs.Edit.{edit_tests, edited, replaced}
+use Rattle.content.specs.Edit.{done, edit_tests, edited, replaced}
 use Rattle.content.specs.Update as update
 use Rattle.content.specs.Update.{laid, update_tests, updated}
 use Rattle.content.specs.Marks.{tree_letters, tree_marks}
 use Rattle.content.specs.Grammar.{outline}
 use Rattle.content.specs.Tree.{tree_of}
 use Rattle.content.specs.declared.position.Mark.TheVariants.{Structure}
-use Rattle.content.specs.declared.edit.Edited.TheVariants.{Done}
-use Rattle.content.specs.declared.test.Verdict.TheVariants.{Good}
-use Rattle.content.specs.declared.update.Updated.TheVariants.{Laid}
 
 -- What a refusal leaves: every byte. The first write stands behind the last test.
 abbrev pub RefusedEditLeaves : Type 0
@@ -50,13 +47,13 @@ ChangeKeeps = (s t : List ℕ) → Changed start s t → Kept s t
 abbrev pub EditChanges : Type 0
 EditChanges =
     (s : List ℕ) (address : ℕ) (symbols : List ℕ) →
-    edited s address symbols ≡ Done →
+    edited s address symbols ≡ done →
     Changed start s (replaced s address symbols)
 
 abbrev pub EditKeepsLength : Type 0
 EditKeepsLength =
     (s : List ℕ) (address : ℕ) (symbols : List ℕ) →
-    edited s address symbols ≡ Done →
+    edited s address symbols ≡ done →
     length (replaced s address symbols) ≡ length s
 
 -- So a content stays a content.
@@ -64,14 +61,14 @@ abbrev pub EditStaysContent : Type 0
 EditStaysContent =
     (s : List ℕ) (address : ℕ) (symbols : List ℕ) →
     is_content s ≡ true →
-    edited s address symbols ≡ Done →
+    edited s address symbols ≡ done →
     (is_content (replaced s address symbols) ≡ true) × Kept s (replaced s address symbols)
 
 -- 01, What an accepted frame does: "42h replaces bytes from the address on": each symbol lands where it is addressed to.
 abbrev pub EditLands : Type 0
 EditLands =
     (s : List ℕ) (address : ℕ) (symbols : List ℕ) (k : ℕ) →
-    edited s address symbols ≡ Done →
+    edited s address symbols ≡ done →
     k < length symbols →
     get_or (replaced s address symbols) (address + k) 0 ≡ get_or symbols k 0
 
@@ -79,8 +76,8 @@ EditLands =
 abbrev pub EditAddresses : Type 0
 EditAddresses =
     (s : List ℕ) (address : ℕ) (symbols : List ℕ) (k : ℕ) →
-    verdict s ≡ Good →
-    edited s address symbols ≡ Done →
+    verdict s ≡ good →
+    edited s address symbols ≡ done →
     k < length symbols →
     is_position (get_or (tree_marks (tree_of s)) (address + k) Structure) ≡ true
 
@@ -88,7 +85,7 @@ EditAddresses =
 abbrev pub EditElsewhere : Type 0
 EditElsewhere =
     (s : List ℕ) (address : ℕ) (symbols : List ℕ) (i : ℕ) →
-    edited s address symbols ≡ Done →
+    edited s address symbols ≡ done →
     (i < address → get_or (replaced s address symbols) i 0 ≡ get_or s i 0)
     × (address + length symbols ≤ i → get_or (replaced s address symbols) i 0 ≡ get_or s i 0)
 
@@ -112,18 +109,18 @@ UpdateStaysContent =
 abbrev pub UpdateTaken : Type 0
 UpdateTaken =
     (s text : List ℕ) →
-    verdict s ≡ Good →
-    (updated s text ≡ Laid) ↔ ((length text ≡ length (tree_letters (tree_of s))) × (all_characters text ≡ true))
+    verdict s ≡ good →
+    (updated s text ≡ done) ↔ ((length text ≡ length (tree_letters (tree_of s))) × (all_characters text ≡ true))
 
 -- 01, What an accepted frame does: "An update lays its characters over the character positions of external fields [..], fields in
 -- order": each position gets its own, and none is lost.
 abbrev pub UpdateLands : Type 0
-UpdateLands = (s text : List ℕ) → updated s text ≡ Laid → at_fields start (laid text start s) ≡ text
+UpdateLands = (s text : List ℕ) → updated s text ≡ done → at_fields start (laid text start s) ≡ text
 
 -- The same in the words of the grammar: the characters of the tree's fields, in order, become the text.
 abbrev pub UpdateLetters : Type 0
 UpdateLetters =
-    (s text : List ℕ) → verdict s ≡ Good → updated s text ≡ Laid → tree_letters (tree_of (laid text start s)) ≡ text
+    (s text : List ℕ) → verdict s ≡ good → updated s text ≡ done → tree_letters (tree_of (laid text start s)) ≡ text
 
 -- Every other byte stays.
 abbrev pub UpdateElsewhere : Type 0
@@ -134,7 +131,7 @@ UpdateElsewhere =
 
 -- Which positions these are, a tree says.
 abbrev pub MarksOfContent : Type 0
-MarksOfContent = (s : List ℕ) → verdict s ≡ Good → marks start s ≡ tree_marks (tree_of s)
+MarksOfContent = (s : List ℕ) → verdict s ≡ good → marks start s ≡ tree_marks (tree_of s)
 
 abbrev pub PositionsOfContent : Type 0
-PositionsOfContent = (s : List ℕ) → verdict s ≡ Good → field_positions s ≡ length (tree_letters (tree_of s))
+PositionsOfContent = (s : List ℕ) → verdict s ≡ good → field_positions s ≡ length (tree_letters (tree_of s))

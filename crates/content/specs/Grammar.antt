@@ -1,11 +1,10 @@
 -- The grammar: the tree of a content in document 01's words, the bytes that a tree is written as, and what makes a tree good.
-use Rattle.std.specs.Prelude.{ℕ, ◌+◌, Bool, true, false, List, [], ◌∷◌, ◌++◌, map, eqb, leb, length}
+use Rattle.std.specs.Prelude.{ℕ, Option, None, Some, ◌+◌, Bool, true, false, List, [], ◌∷◌, ◌++◌, map, eqb, leb, length}
 use Rattle.frame.specs.Ground.{both, within}
 use Rattle.content.specs.Byte.{is_character, is_expansion, is_count, all_characters, code_of, is_code}
 use Rattle.content.specs.Machine.{most_lines, most_fields}
 use Rattle.content.specs.Strip.{character_of, printed}
-use Rattle.content.specs.declared.byte.Coded.{Coded}
-use Rattle.content.specs.declared.byte.Coded.TheVariants as coded
+use Rattle.content.specs.declared.byte.Code.{Code}
 use Rattle.content.specs.declared.strip.Values.{Values}
 
 -- 01, What a content is: "An item is one of: a character; a tabulation; a counter; an external field; a date item".
@@ -121,9 +120,9 @@ abbrev pub characters : List ℕ → List Item
 characters [] = []
 characters (c ∷ cs) = character c ∷ characters cs
 
-abbrev pub code_text : Values → Coded → List ℕ
-code_text v (coded.Code c) = printed (character_of v c)
-code_text v coded.Not = []
+abbrev pub code_text : Values → Option Code → List ℕ
+code_text v (Some c) = printed (character_of v c)
+code_text v None = []
 
 abbrev pub date_text : Values → List ℕ → List ℕ
 date_text v [] = []

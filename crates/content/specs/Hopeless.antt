@@ -1,8 +1,7 @@
 -- Where bytes that are no good content go wrong, in the words of the grammar alone.
-use Rattle.std.specs.Prelude.{ℕ, ◌+◌, ◌<◌, true, List, ◌++◌, ◌↔◌, ◌⊎◌, ◌≡◌, length, take}
+use Rattle.std.specs.Prelude.{ℕ, Err, ◌+◌, ◌<◌, true, List, ◌++◌, ◌↔◌, ◌⊎◌, ◌≡◌, length, take}
 use Rattle.content.specs.Content.{verdict}
 use Rattle.content.specs.Grammar.{Tree, encode, good_tree}
-use Rattle.content.specs.declared.test.Verdict.TheVariants.{Unfit}
 
 -- A good content can begin with these bytes: with some bytes behind them they are the writing of a good tree, of whatever length.
 pub record Begins (beginning : List ℕ) : Type 0 where
@@ -34,4 +33,4 @@ GoesWrong s i = FirstHopeless s i ⊎ StopsEarly s i
 
 -- The reader finds just that place, and none but that.
 abbrev pub UnfitThere : Type 0
-UnfitThere = (s : List ℕ) (i : ℕ) → (verdict s ≡ Unfit i) ↔ GoesWrong s i
+UnfitThere = (s : List ℕ) (i : ℕ) → (verdict s ≡ Err i) ↔ GoesWrong s i

@@ -1,12 +1,11 @@
 -- What the item reader finds at a place: an item and where it ends, a byte that ends the block, or a byte that can't stand there.
-use Rattle.std.specs.Prelude.{ℕ, ◌+◌, Bool, List, eqb, ltb, get_or, drop}
+use Rattle.std.specs.Prelude.{ℕ, Option, None, Some, ◌+◌, Bool, List, eqb, ltb, get_or, drop}
 use Rattle.frame.specs.Ground.{pick}
-use Rattle.content.specs.Byte.{kind_of, code_of, is_character, is_code, is_count, is_expansion, in_front}
+use Rattle.content.specs.Byte.{kind_of, code_of, is_character, is_count, is_expansion, characters_in_front, codes_in_front}
 use Rattle.content.specs.Machine.{most_lines, most_fields}
+use Rattle.content.specs.declared.byte.Code.{Code}
 use Rattle.content.specs.declared.byte.Kind.{Kind}
 use Rattle.content.specs.declared.byte.Kind.TheVariants as kind
-use Rattle.content.specs.declared.byte.Coded.{Coded}
-use Rattle.content.specs.declared.byte.Coded.TheVariants as coded
 use Rattle.content.specs.declared.item.Place.{Place}
 use Rattle.content.specs.declared.item.Place.TheVariants as place
 use Rattle.content.specs.declared.item.Reader.{Reader}
@@ -57,10 +56,10 @@ past reader item next = record { at = next; place = behind item; seen = counted 
 
 -- The place behind the characters, and behind the codes, that stand in a row from a place on.
 unfoldable pub characters_end : List ℕ → ℕ → ℕ
-characters_end s at = at + in_front is_character (drop at s)
+characters_end s at = at + characters_in_front (drop at s)
 
 unfoldable pub codes_end : List ℕ → ℕ → ℕ
-codes_end s at = at + in_front (λ b. is_code (code_of b)) (drop at s)
+codes_end s at = at + codes_in_front (drop at s)
 
 -- 01, What a content is: "a tabulation: 1Eh, n (1 to 255), 1Eh"; "a counter: 1Ch, 01h, 1Ch": a mark, a number that must fit, and
 -- the mark again.
@@ -114,9 +113,9 @@ field_token s at =
     (pick (is_character (get_or s at 0)) (Read FieldCharacters (characters_end s at)) (Unfit at))
 
 -- 01, What a content is: "a date item: 1Bh, zero or more codes, 1Bh".
-abbrev pub code_token : ℕ → Coded → Token
-code_token at (coded.Code c) = Read (Date c) (at + 1)
-code_token at coded.Not = Unfit at
+abbrev pub code_token : ℕ → Option Code → Token
+code_token at (Some c) = Read (Date c) (at + 1)
+code_token at None = Unfit at
 
 unfoldable pub date_token : List ℕ → ℕ → Token
 date_token s at = pick (eqb (get_or s at 0) 0x1B) (Read DateCloses (at + 1)) (code_token at (code_of (get_or s at 0)))

@@ -3,20 +3,19 @@
 use Rattle.std.specs.Prelude.{ℕ, true, List, ◌≡◌, length}
 use Rattle.content.specs.Byte.{is_character}
 use Rattle.content.specs.Machine.{Mode, start, step}
-use Rattle.content.specs.Content.{verdict}
+use Rattle.content.specs.Content.{good, verdict}
 use Rattle.content.specs.Marks.{tree_letters, tree_marks}
 use Rattle.content.specs.Position.{at_fields, field_positions, is_position, mark_of, marks}
 use Rattle.content.specs.Grammar.{Tree, encode, good_tree}
 use Rattle.content.specs.Tree.{tree_of}
-use Rattle.content.specs.declared.test.Verdict.TheVariants.{Good}
 
 -- Correct: what is read as good is a good tree, written out.
 abbrev pub Correct : Type 0
-Correct = (s : List ℕ) → verdict s ≡ Good → (good_tree (tree_of s) ≡ true) × (encode (tree_of s) ≡ s)
+Correct = (s : List ℕ) → verdict s ≡ good → (good_tree (tree_of s) ≡ true) × (encode (tree_of s) ≡ s)
 
 -- Complete: every good tree, written out, is read as good.
 abbrev pub Complete : Type 0
-Complete = (t : Tree) → good_tree t ≡ true → verdict (encode t) ≡ Good
+Complete = (t : Tree) → good_tree t ≡ true → verdict (encode t) ≡ good
 
 -- Unambiguous: no two good trees are written alike.
 abbrev pub Unambiguous : Type 0
@@ -26,7 +25,7 @@ Unambiguous = (t u : Tree) → good_tree t ≡ true → good_tree u ≡ true →
 abbrev pub ExactlyOneTree : Type 0
 ExactlyOneTree =
     (s : List ℕ) →
-    verdict s ≡ Good →
+    verdict s ≡ good →
     (t : Tree)
     × (good_tree t ≡ true)
     × (encode t ≡ s)

@@ -1,11 +1,10 @@
 -- The machine that reads a content a byte at a time. Everything the box does with a content comes from its step.
-use Rattle.std.specs.Prelude.{ℕ, ◌+◌, eqb, ltb}
+use Rattle.std.specs.Prelude.{ℕ, Option, None, Some, ◌+◌, eqb, ltb}
 use Rattle.frame.specs.Ground.{pick}
 use Rattle.content.specs.Byte.{kind_of, code_of, is_character, is_expansion, is_count}
+use Rattle.content.specs.declared.byte.Code.{Code}
 use Rattle.content.specs.declared.byte.Kind.{Kind}
 use Rattle.content.specs.declared.byte.Kind.TheVariants as kind
-use Rattle.content.specs.declared.byte.Coded.{Coded}
-use Rattle.content.specs.declared.byte.Coded.TheVariants as coded
 use Rattle.content.specs.declared.item.Place.{Place}
 use Rattle.content.specs.declared.item.Place.TheVariants.{Content, Line, Block, Field, Date}
 use Rattle.content.specs.declared.item.Seen.{Seen}
@@ -61,9 +60,9 @@ abbrev pub in_field : ℕ → Seen → Mode
 in_field b seen = pick (eqb b 0x12) (Reading (Inside Block) seen) (pick (is_character b) (Reading (Inside Field) seen) Bad)
 
 -- 01, What a content is: "a date item: 1Bh, zero or more codes, 1Bh".
-abbrev pub in_code : Coded → Seen → Mode
-in_code (coded.Code c) seen = Reading (Inside Date) seen
-in_code coded.Not seen = Bad
+abbrev pub in_code : Option Code → Seen → Mode
+in_code (Some c) seen = Reading (Inside Date) seen
+in_code None seen = Bad
 
 abbrev pub in_date : ℕ → Seen → Mode
 in_date b seen = pick (eqb b 0x1B) (Reading (Inside Block) seen) (in_code (code_of b) seen)

@@ -3,16 +3,11 @@ use Rattle.std.specs.Prelude.{ℕ, true, List, ◌≡◌, length}
 use Rattle.frame.specs.Numbers.{FirstGiven, in_order}
 use Rattle.content.specs.Content.{Tests, content_tests}
 use Rattle.content.specs.Position.{field_positions}
-use Rattle.content.specs.Edit as edit
-use Rattle.content.specs.Edit.{Edits, edit_tests}
-use Rattle.content.specs.Update as update
+use Rattle.content.specs.Edit.{Edited, Edits, edit_tests}
 use Rattle.content.specs.Update.{Updates, update_tests}
-use Rattle.frame.specs.Build as build
+use Rattle.frame.specs.Build.{Built, given_by}
 use Rattle.frame.specs.declared.given.Given.{Given}
-use Rattle.frame.specs.declared.build.Built.{Built}
 use Rattle.content.specs.Strip.{Puts, put_tests}
-use Rattle.content.specs.declared.edit.Edited.{Edited}
-use Rattle.content.specs.declared.update.Updated.{Updated}
 use Rattle.content.specs.declared.strip.Values.{Values}
 
 -- 01, Numbers: "Checked in this order". `write_strip` alone asks 10 before 2: what is no content has no strip that could fit.
@@ -28,12 +23,12 @@ pub record CallsGiveFirst : Type 0 where
   pub edit :
       (before : List ℕ) (address : ℕ) (symbols : List ℕ) (r : Edited) (after : List ℕ) →
       Edits before address symbols r after →
-      FirstGiven (edit_tests before address symbols) (edit.given_by r)
+      FirstGiven (edit_tests before address symbols) (given_by r)
   pub update :
-      (before text : List ℕ) (r : Updated) (after : List ℕ) →
+      (before text : List ℕ) (r : Edited) (after : List ℕ) →
       Updates before text r after →
-      FirstGiven (update_tests (field_positions before) text) (update.given_by r)
+      FirstGiven (update_tests (field_positions before) text) (given_by r)
   pub put :
       (v : Values) (s before : List ℕ) (r : Built) (after : List ℕ) →
       Puts v s before r after →
-      FirstGiven (put_tests s (length before)) (build.given_by r)
+      FirstGiven (put_tests s (length before)) (given_by r)

@@ -1,8 +1,8 @@
 -- 02, Wish 4: the place that each refusal carries, both ways: the number stands with just that place exactly where the grammar says so.
-use Rattle.std.specs.Prelude.{ℕ, ◌+◌, ◌≤◌, ◌<◌, true, false, List, ◌↔◌, ◌⊎◌, ◌≡◌, length, get_or}
+use Rattle.std.specs.Prelude.{ℕ, Err, ◌+◌, ◌≤◌, ◌<◌, true, false, List, ◌↔◌, ◌⊎◌, ◌≡◌, length, get_or}
 use Rattle.frame.specs.Ground.{placed, plain}
 use Rattle.content.specs.Byte.{is_character}
-use Rattle.content.specs.Content.{tested, verdict}
+use Rattle.content.specs.Content.{good, tested, verdict}
 use Rattle.content.specs.Edit.{edited}
 use Rattle.content.specs.Grammar.{Tree, encode, good_tree}
 use Rattle.content.specs.Hopeless.{GoesWrong}
@@ -10,10 +10,7 @@ use Rattle.content.specs.Marks.{tree_letters, tree_marks}
 use Rattle.content.specs.Position.{is_position}
 use Rattle.content.specs.Tree.{tree_of}
 use Rattle.content.specs.Update.{updated}
-use Rattle.content.specs.declared.edit.Edited.TheVariants as edit
 use Rattle.content.specs.declared.position.Mark.TheVariants.{Structure}
-use Rattle.content.specs.declared.test.Verdict.TheVariants.{Good}
-use Rattle.content.specs.declared.update.Updated.TheVariants as update
 
 -- 10: "512 if there are more than 512 bytes; else the first byte with which no good content can begin, leaving the 512 aside; else, if the
 -- bytes merely stop early, their count".
@@ -39,8 +36,8 @@ pub record FirstAstray (s : List ℕ) (address n i : ℕ) : Type 0 where
 abbrev pub EditAstray : Type 0
 EditAstray =
     (s : List ℕ) (address : ℕ) (symbols : List ℕ) (i : ℕ) →
-    verdict s ≡ Good →
-    (edited s address symbols ≡ edit.Refused (placed 12 i)) ↔ FirstAstray s address (length symbols) i
+    verdict s ≡ good →
+    (edited s address symbols ≡ Err (placed 12 i)) ↔ FirstAstray s address (length symbols) i
 
 -- 13: the first "symbol index, from 0" whose byte is no character.
 pub record FirstOther (symbols : List ℕ) (i : ℕ) : Type 0 where
@@ -56,11 +53,11 @@ OnCharacters s address n =
 abbrev pub EditOther : Type 0
 EditOther =
     (s : List ℕ) (address : ℕ) (symbols : List ℕ) (i : ℕ) →
-    verdict s ≡ Good →
-    (edited s address symbols ≡ edit.Refused (placed 13 i)) ↔ (OnCharacters s address (length symbols) × FirstOther symbols i)
+    verdict s ≡ good →
+    (edited s address symbols ≡ Err (placed 13 i)) ↔ (OnCharacters s address (length symbols) × FirstOther symbols i)
 
 abbrev pub UpdateOther : Type 0
 UpdateOther =
     (s text : List ℕ) (i : ℕ) →
-    verdict s ≡ Good →
-    (updated s text ≡ update.Refused (placed 13 i)) ↔ ((length text ≡ length (tree_letters (tree_of s))) × FirstOther text i)
+    verdict s ≡ good →
+    (updated s text ≡ Err (placed 13 i)) ↔ ((length text ≡ length (tree_letters (tree_of s))) × FirstOther text i)

@@ -1,5 +1,5 @@
 -- The mark of every byte of a content: structure, or a character position and in what it stands.
-use Rattle.std.specs.Prelude.{ℕ, ◌+◌, ◌-◌, ◌≤◌, ◌<◌, Bool, true, false, List, [], ◌∷◌, ◌++◌, ◌≡◌, length, drop, replicate}
+use Rattle.std.specs.Prelude.{ℕ, ◌+◌, ◌-◌, ◌≤◌, ◌<◌, Bool, true, false, Option, None, Some, List, [], ◌∷◌, ◌++◌, ◌≡◌, length, drop, replicate}
 use Rattle.frame.specs.Ground.{pick}
 use Rattle.content.specs.Byte.{is_character}
 use Rattle.content.specs.Machine.{Spot, Inside, Font, TabulationCount, TabulationEnd, CounterNumber, CounterEnd, Mode, Reading, Done, Bad, start, step}
@@ -12,7 +12,6 @@ use Rattle.content.specs.declared.item.Item.TheVariants as item
 use Rattle.content.specs.declared.position.Mark.{Mark}
 use Rattle.content.specs.declared.position.Mark.TheVariants.{Structure, Character, FieldCharacter}
 use Rattle.content.specs.declared.position.Run.{Run}
-use Rattle.content.specs.declared.position.Run.TheVariants.{Found, None}
 
 -- What a character is where it stands: an item, a part of an external field, or a code of a date item.
 abbrev pub mark_inside : Place → Mark
@@ -89,6 +88,7 @@ pub record Stretch (s : List ℕ) (at : ℕ) (p : Place) (seen : Seen) (k : Mark
   pub position : is_position k ≡ true
   pub same : marks (Reading (Inside p) seen) (drop at s) ≡ replicate (from - at) Structure ++ (replicate (to - from) k ++ marks (Reading (Inside p') seen') (drop to s))
 
-abbrev pub Runs : List ℕ → Reader → Run → Type 0
-Runs s r (Found k from n) = Stretch s r.at r.place r.seen k from n.at n.place n.seen
+abbrev pub Runs : List ℕ → Reader → Option Run → Type 0
+Runs s r (Some run) =
+    Stretch s r.at r.place r.seen run.mark run.from run.next.at run.next.place run.next.seen
 Runs s r None = marks (Reading (Inside r.place) r.seen) (drop r.at s) ≡ replicate (length s - r.at) Structure

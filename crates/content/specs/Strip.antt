@@ -1,16 +1,12 @@
 -- The strip: the content with each counter, field and date item replaced by what it stands for.
-use Rattle.std.specs.Prelude.{ℕ, ◌+◌, ◌*◌, List, [], ◌∷◌, ◌++◌, ◌≡◌, eqb, leb, length, get_or, take, drop}
+use Rattle.std.specs.Prelude.{ℕ, Option, None, Some, Ok, Err, ◌+◌, ◌*◌, List, [], ◌∷◌, ◌++◌, ◌≡◌, eqb, leb, length, get_or, take, drop}
 use Rattle.frame.specs.Ground.{Test, checked, over, pick, test}
-use Rattle.frame.specs.Build.{Reports}
-use Rattle.frame.specs.declared.build.Built.{Built}
-use Rattle.frame.specs.declared.build.Built.TheVariants.{Refused, Written}
+use Rattle.frame.specs.Build.{Built, Reports}
 use Rattle.content.specs.Byte.{kind_of, code_of}
 use Rattle.content.specs.Machine.{Spot, Inside, Font, TabulationCount, TabulationEnd, CounterNumber, CounterEnd, Mode, Reading, Done, Bad, start, step}
 use Rattle.content.specs.Content.{content_test}
 use Rattle.content.specs.declared.byte.Code.{Code}
 use Rattle.content.specs.declared.byte.Code.TheVariants.{Entry, Colon, Slash, Dot, Space}
-use Rattle.content.specs.declared.byte.Coded.{Coded}
-use Rattle.content.specs.declared.byte.Coded.TheVariants as coded
 use Rattle.content.specs.declared.byte.Kind.{Kind}
 use Rattle.content.specs.declared.byte.Kind.TheVariants as kind
 use Rattle.content.specs.declared.item.Item.{Item}
@@ -34,9 +30,9 @@ character_of v c = character_in v.entries c
 unfoldable pub printed : ℕ → List ℕ
 printed b = pick (eqb b 0x00) [] (b ∷ [])
 
-abbrev pub shown_code : Values → Coded → List ℕ
-shown_code v (coded.Code c) = printed (character_of v c)
-shown_code v coded.Not = []
+abbrev pub shown_code : Values → Option Code → List ℕ
+shown_code v (Some c) = printed (character_of v c)
+shown_code v None = []
 
 -- 01, What an accepted frame does: "A strip is the content with each counter replaced by its 9 digits [..], each field by its
 -- characters, each date item by its text. Tabulations stay." What a byte shows goes by where it stands: the marks around fields and
@@ -114,11 +110,11 @@ put_tests s room = test (leb (3 * length s) room) 2 ∷ []
 
 -- The answer: the first test that fails, or the length of the strip.
 unfoldable pub stripped : List Test → Values → List ℕ → Built
-stripped tests v s = checked tests Refused (Written (length (strip v s)))
+stripped tests v s = checked tests (λ g. Err g) (Ok (length (strip v s)))
 
 abbrev pub strip_bytes : Built → Values → List ℕ → List ℕ
-strip_bytes (Refused g) v s = []
-strip_bytes (Written n) v s = strip v s
+strip_bytes (Err g) v s = []
+strip_bytes (Ok n) v s = strip v s
 
 -- What is given back, and over the buffer's front just the strip that it tells of.
 pub record Gives (tests : List Test) (v : Values) (s before : List ℕ) (r : Built) (after : List ℕ) : Type 0 where

@@ -1,11 +1,10 @@
 // The item reader: what stands at a place of a content, an item or a mark of one, or what opens a line or a block.
-ghost use Rattle.std.specs.Prelude.{◌≤◌, ◌<◌, ◌^◌, length, get_or, ◌≡◌};
+ghost use Rattle.std.specs.Prelude.{◌+◌, ◌≤◌, ◌<◌, length, get_or, ◌≡◌};
+ghost use Rattle.frame.specs.Ground.{pick};
 ghost use Rattle.content.specs.Byte.{characters_in_front, kind_of};
 ghost use Rattle.content.specs.Item.{begin, behind, block_token, characters_end, closing, codes_end, content_token, counted, date_token, enclosed, field_token, item_at, line_token, one_byte, one_more, open_block, opened, opens, opening, passed, past, piece_at, token_at, whole_field};
 
-use crate::byte::{
-    Code, Coded, Kind, byte_at, code_of, is_character, is_code, is_count, is_expansion, kind_of,
-};
+use crate::byte::{Code, Kind, byte_at, code_of, is_character, is_count, is_expansion, kind_of};
 
 // At most so many lines and external fields.
 pub const LINES: u8 = 4;
@@ -13,7 +12,7 @@ pub const LINES: u8 = 4;
 pub const FIELDS: u8 = 10;
 
 // In what we are.
-#[derive(Clone, Copy)]
+#[derive(Clone, Copy, Debug, PartialEq, Eq)]
 pub enum Place {
     // Before the first line.
     Content,
@@ -25,21 +24,21 @@ pub enum Place {
 }
 
 // How many lines and external fields have begun.
-#[derive(Clone, Copy)]
+#[derive(Clone, Copy, Debug, PartialEq, Eq)]
 pub struct Seen {
     pub lines: u8,
     pub fields: u8,
 }
 
 // Where the reader stands: at which place of the bytes, in what, and what has begun before it.
-#[derive(Clone, Copy)]
+#[derive(Clone, Copy, Debug, PartialEq, Eq)]
 pub struct Reader {
     pub at: usize,
     pub place: Place,
     pub seen: Seen,
 }
 
-#[derive(Clone, Copy)]
+#[derive(Clone, Copy, Debug, PartialEq, Eq)]
 pub enum Item {
     LineOpens,
     // The expansion and the font of a block.
@@ -57,8 +56,8 @@ pub enum Item {
     DateCloses,
 }
 
-// What the reader finds.
-#[derive(Clone, Copy)]
+// What the reader finds: three answers, and no `Result` of an `Option`, since document 01 wants "an enum of item kinds inside the answer of the item reader".
+#[derive(Clone, Copy, Debug, PartialEq, Eq)]
 pub enum Token {
     // An item, and the place behind it.
     Read { item: Item, next: usize },
@@ -74,16 +73,9 @@ fn behind(item: Item) -> Place
 {
     match item {
         Item::LineOpens => Place::Line,
-        Item::BlockOpens => Place::Block,
-        Item::Characters => Place::Block,
-        Item::FieldCharacters => Place::Field,
-        Item::Tabulation(_) => Place::Block,
-        Item::Counter(_) => Place::Block,
-        Item::FieldOpens => Place::Field,
-        Item::FieldCloses => Place::Block,
-        Item::DateOpens => Place::Date,
-        Item::Date(_) => Place::Date,
-        Item::DateCloses => Place::Block,
+        Item::FieldOpens | Item::FieldCharacters => Place::Field,
+        Item::DateOpens | Item::Date(_) => Place::Date,
+        _ => Place::Block,
     }
 }
 
@@ -113,13 +105,11 @@ pub(crate) fn past(reader: Reader, item: Item, next: usize) -> Reader
 }
 
 // One more, but not more than the most.
+#[tactic(auto, unfolding(crate::specs::Item::one_more))]
 fn one_more(most: u8, n: u8) -> u8
     ensures { result ≡ one_more most n }
 {
-    if n < most {
-        return n + 1;
-    }
-    n
+    if n < most { n + 1 } else { n }
 }
 
 // What has begun with an item.
@@ -129,231 +119,13 @@ fn counted(item: Item, seen: Seen) -> Seen
     match item {
         Item::LineOpens => Seen {
             lines: one_more(LINES, seen.lines),
-            fields: seen.fields,
+            ..seen
         },
-        Item::BlockOpens => seen,
-        Item::Characters => seen,
-        Item::FieldCharacters => seen,
-        Item::Tabulation(_) => seen,
-        Item::Counter(_) => seen,
         Item::FieldOpens => Seen {
-            lines: seen.lines,
             fields: one_more(FIELDS, seen.fields),
+            ..seen
         },
-        Item::FieldCloses => seen,
-        Item::DateOpens => seen,
-        Item::Date(_) => seen,
-        Item::DateCloses => seen,
-    }
-}
-
-// The place behind the characters that stand in a row from a place on.
-fn characters_end(s: &[u8], at: usize) -> usize
-    requires { at ≤ length s.now }
-    ensures { result ≡ characters_end s.now at }
-{
-    let mut i = at;
-    while i < s.len() {
-        if !is_character(s[i]) {
-            return i;
-        }
-        i += 1;
-    }
-    i
-}
-
-// How many characters stand in front: the index of the first byte that is none, or the count where all are.
-pub fn characters_in_front(s: &[u8]) -> usize
-    ensures { result ≡ characters_in_front s.now }
-{
-    characters_end(s, 0)
-}
-
-// The place behind the codes that stand in a row from a place on.
-fn codes_end(s: &[u8], at: usize) -> usize
-    requires { at ≤ length s.now }
-    ensures { result ≡ codes_end s.now at }
-{
-    let mut i = at;
-    while i < s.len() {
-        if !is_code(code_of(s[i])) {
-            return i;
-        }
-        i += 1;
-    }
-    i
-}
-
-// A number between two marks.
-fn enclosed(s: &[u8], at: usize, fits: bool, mark: u8, item: Item) -> Token
-    requires { at ≤ length s.now }
-    ensures { result ≡ enclosed s.now at fits mark item }
-{
-    if fits {
-        if byte_at(s, at + 2) == mark {
-            return Token::Read { item, next: at + 3 };
-        }
-        return Token::Unfit(at + 2);
-    }
-    Token::Unfit(at + 1)
-}
-
-// An item of one byte.
-fn one_byte(at: usize, item: Item) -> Token
-    requires { at ≤ 2 ^ 63 }
-    ensures { result ≡ one_byte at item }
-{
-    Token::Read { item, next: at + 1 }
-}
-
-// A 0Ah opens a line, the fourth at the most; a 12h an external field, the tenth at the most.
-fn opens(at: usize, begun: u8, most: u8, item: Item) -> Token
-    requires { at ≤ 2 ^ 63 }
-    ensures { result ≡ opens at begun most item }
-{
-    if begun < most {
-        return one_byte(at, item);
-    }
-    Token::Unfit(at)
-}
-
-// An expansion, and a font behind it, open a block.
-fn open_block(s: &[u8], at: usize) -> Token
-    requires { at ≤ length s.now }
-    ensures { result ≡ open_block s.now at }
-{
-    if is_count(byte_at(s, at + 1)) {
-        return Token::Read {
-            item: Item::BlockOpens,
-            next: at + 2,
-        };
-    }
-    Token::Unfit(at + 1)
-}
-
-fn content_token(s: &[u8], at: usize, seen: Seen) -> Token
-    requires { at ≤ length s.now }
-    ensures { result ≡ content_token s.now at seen }
-{
-    if byte_at(s, at) == 0x0A {
-        return opens(at, seen.lines, LINES, Item::LineOpens);
-    }
-    Token::Unfit(at)
-}
-
-fn line_token(s: &[u8], at: usize) -> Token
-    requires { at ≤ length s.now }
-    ensures { result ≡ line_token s.now at }
-{
-    if is_expansion(byte_at(s, at)) {
-        return open_block(s, at);
-    }
-    Token::Unfit(at)
-}
-
-fn block_token(s: &[u8], at: usize, kind: Kind, seen: Seen) -> Token
-    requires { at ≤ length s.now }
-    ensures { result ≡ block_token s.now at kind seen }
-{
-    match kind {
-        Kind::Line => Token::Ends,
-        Kind::End => Token::Ends,
-        Kind::Field => opens(at, seen.fields, FIELDS, Item::FieldOpens),
-        Kind::Date => Token::Read {
-            item: Item::DateOpens,
-            next: at + 1,
-        },
-        Kind::Counter => {
-            let n = byte_at(s, at + 1);
-            enclosed(s, at, n == 0x01, 0x1C, Item::Counter(n))
-        }
-        Kind::Tabulation => {
-            let n = byte_at(s, at + 1);
-            enclosed(s, at, is_count(n), 0x1E, Item::Tabulation(n))
-        }
-        Kind::Expansion => Token::Ends,
-        Kind::Character => Token::Read {
-            item: Item::Characters,
-            next: characters_end(s, at),
-        },
-        Kind::Other => Token::Unfit(at),
-    }
-}
-
-fn field_token(s: &[u8], at: usize) -> Token
-    requires { at ≤ length s.now }
-    ensures { result ≡ field_token s.now at }
-{
-    let b = byte_at(s, at);
-    if b == 0x12 {
-        return one_byte(at, Item::FieldCloses);
-    }
-    if is_character(b) {
-        return Token::Read {
-            item: Item::FieldCharacters,
-            next: characters_end(s, at),
-        };
-    }
-    Token::Unfit(at)
-}
-
-fn date_token(s: &[u8], at: usize) -> Token
-    requires { at ≤ length s.now }
-    ensures { result ≡ date_token s.now at }
-{
-    let b = byte_at(s, at);
-    if b == 0x1B {
-        return one_byte(at, Item::DateCloses);
-    }
-    let coded = code_of(b);
-    match coded {
-        Coded::Code(code) => Token::Read {
-            item: Item::Date(code),
-            next: at + 1,
-        },
-        Coded::Not => Token::Unfit(at),
-    }
-}
-
-// The mark that closes an item, behind what stands in it.
-fn closing(s: &[u8], at: usize, mark: u8, item: Item) -> Token
-    requires { at ≤ length s.now }
-    ensures { result ≡ closing s.now at mark item }
-{
-    if byte_at(s, at) == mark {
-        return Token::Read { item, next: at + 1 };
-    }
-    Token::Unfit(at)
-}
-
-// An external field, the tenth at the most, as a whole.
-fn whole_field(s: &[u8], at: usize, seen: Seen) -> Token
-    requires { at < length s.now }
-    ensures { result ≡ whole_field s.now at seen }
-{
-    if FIELDS <= seen.fields {
-        return Token::Unfit(at);
-    }
-    closing(s, characters_end(s, at + 1), 0x12, Item::FieldCloses)
-}
-
-// What stands at a place in a block for the test, by its first byte: external fields and date items are passed as a whole, and a byte
-// that ends the block is left to it.
-pub(crate) fn item_at(s: &[u8], at: usize, kind: Kind, seen: Seen) -> Token
-    requires at_in_bounds { at ≤ length s.now }
-    requires kind_value { kind ≡ kind_of (get_or s.now at 0) }
-    ensures { result ≡ item_at s.now at kind seen }
-{
-    match kind {
-        Kind::Line => Token::Ends,
-        Kind::End => Token::Ends,
-        Kind::Field => whole_field(s, at, seen),
-        Kind::Date => closing(s, codes_end(s, at + 1), 0x1B, Item::DateCloses),
-        Kind::Counter => block_token(s, at, kind, seen),
-        Kind::Tabulation => block_token(s, at, kind, seen),
-        Kind::Expansion => Token::Ends,
-        Kind::Character => block_token(s, at, kind, seen),
-        Kind::Other => Token::Unfit(at),
+        _ => seen,
     }
 }
 
@@ -363,84 +135,321 @@ pub(crate) fn passed(item: Item, seen: Seen) -> Seen
     ensures { result ≡ passed item seen }
 {
     match item {
-        Item::LineOpens => seen,
-        Item::BlockOpens => seen,
-        Item::Characters => seen,
-        Item::FieldCharacters => seen,
-        Item::Tabulation(_) => seen,
-        Item::Counter(_) => seen,
-        Item::FieldOpens => seen,
         Item::FieldCloses => Seen {
-            lines: seen.lines,
             fields: seen.fields + 1,
+            ..seen
         },
-        Item::DateOpens => seen,
-        Item::Date(_) => seen,
-        Item::DateCloses => seen,
+        _ => seen,
     }
 }
 
-// What the byte at a place is; behind the last one it is 00h.
-fn kind_at(s: &[u8], at: usize) -> Kind
-    ensures { result ≡ kind_of (get_or s.now at 0) }
+// How many characters stand in front: the index of the first byte that is none, or the count where all are.
+pub fn characters_in_front(s: &[u8]) -> usize
+    ensures { result ≡ characters_in_front s.now }
 {
-    kind_of(byte_at(s, at))
+    s.iter().take_while(|&&b| is_character(b)).count()
 }
 
-// What a byte that ends a block opens.
-fn opening(s: &[u8], at: usize, kind: Kind, seen: Seen) -> Token
+// The place behind the characters that stand in a row from a place on. Tried: a part from the place on and `take_while`, 5 instructions
+// a row more.
+#[tactic(auto, unfolding(crate::specs::Item::characters_end))]
+fn characters_end(s: &[u8], at: usize) -> usize
     requires { at ≤ length s.now }
-    ensures { result ≡ opening s.now at kind seen }
+    ensures { result ≡ characters_end s.now at }
 {
-    match kind {
-        Kind::Line => opens(at, seen.lines, LINES, Item::LineOpens),
-        Kind::End => Token::Ends,
-        Kind::Field => Token::Ends,
-        Kind::Date => Token::Ends,
-        Kind::Counter => Token::Ends,
-        Kind::Tabulation => Token::Ends,
-        Kind::Expansion => open_block(s, at),
-        Kind::Character => Token::Ends,
-        Kind::Other => Token::Ends,
+    for i in at..s.len() {
+        if !is_character(s[i]) {
+            return i;
+        }
+    }
+    s.len()
+}
+
+// The place behind the codes that stand in a row from a place on; for the loop and its test the same was tried.
+#[tactic(auto, unfolding(crate::specs::Item::codes_end))]
+fn codes_end(s: &[u8], at: usize) -> usize
+    requires { at ≤ length s.now }
+    ensures { result ≡ codes_end s.now at }
+{
+    for i in at..s.len() {
+        if code_of(s[i]).is_none() {
+            return i;
+        }
+    }
+    s.len()
+}
+
+// A place in some bytes, at their end at the furthest.
+#[derive(Clone, Copy)]
+struct Point<'a> {
+    s: &'a [u8],
+    at: usize,
+    ghost inside: { at ≤ length s.now },
+}
+
+impl<'a> Point<'a> {
+    // The byte here; at the end it is 00h.
+    fn byte(self) -> u8
+        ensures { result ≡ get_or self.entry.s.now self.entry.at 0 }
+    {
+        byte_at(self.s, self.at)
+    }
+
+    // What it is.
+    fn kind(self) -> Kind
+        ensures { result ≡ kind_of (get_or self.entry.s.now self.entry.at 0) }
+    {
+        kind_of(self.byte())
+    }
+
+    // The byte so many behind it.
+    fn byte_behind(self, k: u8) -> u8
+        ensures { result ≡ get_or self.entry.s.now (self.entry.at + k) 0 }
+    {
+        byte_at(self.s, self.at + usize::from(k))
+    }
+
+    // The place behind one byte.
+    fn next(self) -> Point<'a>
+        requires { self.at < length self.s.now }
+        ensures { (result.s.now ≡ self.entry.s.now) × (result.at ≡ self.entry.at + 1) }
+    {
+        Point {
+            s: self.s,
+            at: self.at + 1,
+        }
+    }
+
+    // The place behind the characters that stand in a row from here on.
+    #[tactic(auto, using(crate::proofs::Front::characters_inside))]
+    fn past_characters(self) -> Point<'a>
+        ensures { (result.s.now ≡ self.entry.s.now) × (result.at ≡ characters_end self.entry.s.now self.entry.at) }
+    {
+        Point {
+            s: self.s,
+            at: characters_end(self.s, self.at),
+        }
+    }
+
+    // The place behind the codes that stand in a row from here on.
+    #[tactic(auto, using(crate::proofs::Front::codes_inside))]
+    fn past_codes(self) -> Point<'a>
+        ensures { (result.s.now ≡ self.entry.s.now) × (result.at ≡ codes_end self.entry.s.now self.entry.at) }
+    {
+        Point {
+            s: self.s,
+            at: codes_end(self.s, self.at),
+        }
+    }
+
+    // An item of one byte.
+    fn one_byte(self, item: Item) -> Token
+        ensures { result ≡ one_byte self.entry.at item }
+    {
+        Token::Read {
+            item,
+            next: self.at + 1,
+        }
+    }
+
+    // A number between two marks.
+    #[tactic(auto, unfolding(crate::specs::Item::enclosed))]
+    fn enclosed(self, fits: bool, mark: u8, item: Item) -> Token
+        ensures { result ≡ enclosed self.entry.s.now self.entry.at fits mark item }
+    {
+        if !fits {
+            Token::Unfit(self.at + 1)
+        } else if self.byte_behind(2) == mark {
+            Token::Read {
+                item,
+                next: self.at + 3,
+            }
+        } else {
+            Token::Unfit(self.at + 2)
+        }
+    }
+
+    // A 0Ah opens a line, the fourth at the most; a 12h an external field, the tenth at the most.
+    #[tactic(auto, unfolding(crate::specs::Item::opens))]
+    fn opens(self, begun: u8, most: u8, item: Item) -> Token
+        ensures { result ≡ opens self.entry.at begun most item }
+    {
+        if begun < most {
+            self.one_byte(item)
+        } else {
+            Token::Unfit(self.at)
+        }
+    }
+
+    // An expansion, and a font behind it, open a block.
+    #[tactic(auto, unfolding(crate::specs::Item::open_block))]
+    fn open_block(self) -> Token
+        ensures { result ≡ open_block self.entry.s.now self.entry.at }
+    {
+        if is_count(self.byte_behind(1)) {
+            Token::Read {
+                item: Item::BlockOpens,
+                next: self.at + 2,
+            }
+        } else {
+            Token::Unfit(self.at + 1)
+        }
+    }
+
+    #[tactic(auto, unfolding(crate::specs::Item::content_token))]
+    fn content_token(self, seen: Seen) -> Token
+        ensures { result ≡ content_token self.entry.s.now self.entry.at seen }
+    {
+        if self.byte() == 0x0A {
+            self.opens(seen.lines, LINES, Item::LineOpens)
+        } else {
+            Token::Unfit(self.at)
+        }
+    }
+
+    #[tactic(auto, unfolding(crate::specs::Item::line_token))]
+    fn line_token(self) -> Token
+        ensures { result ≡ line_token self.entry.s.now self.entry.at }
+    {
+        if is_expansion(self.byte()) {
+            self.open_block()
+        } else {
+            Token::Unfit(self.at)
+        }
+    }
+
+    fn block_token(self, kind: Kind, seen: Seen) -> Token
+        ensures { result ≡ block_token self.entry.s.now self.entry.at kind seen }
+    {
+        match kind {
+            Kind::Line | Kind::End | Kind::Expansion => Token::Ends,
+            Kind::Field => self.opens(seen.fields, FIELDS, Item::FieldOpens),
+            Kind::Date => self.one_byte(Item::DateOpens),
+            Kind::Counter => {
+                let n = self.byte_behind(1);
+                self.enclosed(n == 0x01, 0x1C, Item::Counter(n))
+            }
+            Kind::Tabulation => {
+                let n = self.byte_behind(1);
+                self.enclosed(is_count(n), 0x1E, Item::Tabulation(n))
+            }
+            Kind::Character => Token::Read {
+                item: Item::Characters,
+                next: self.past_characters().at,
+            },
+            Kind::Other => Token::Unfit(self.at),
+        }
+    }
+
+    #[tactic(auto, unfolding(crate::specs::Item::field_token))]
+    fn field_token(self) -> Token
+        ensures { result ≡ field_token self.entry.s.now self.entry.at }
+    {
+        let b = self.byte();
+        if b == 0x12 {
+            self.one_byte(Item::FieldCloses)
+        } else if is_character(b) {
+            Token::Read {
+                item: Item::FieldCharacters,
+                next: self.past_characters().at,
+            }
+        } else {
+            Token::Unfit(self.at)
+        }
+    }
+
+    #[tactic(auto, unfolding(crate::specs::Item::date_token))]
+    fn date_token(self) -> Token
+        ensures { result ≡ date_token self.entry.s.now self.entry.at }
+    {
+        let b = self.byte();
+        if b == 0x1B {
+            return self.one_byte(Item::DateCloses);
+        }
+        match code_of(b) {
+            Some(code) => self.one_byte(Item::Date(code)),
+            None => Token::Unfit(self.at),
+        }
+    }
+
+    // The mark that closes an item, behind what stands in it.
+    #[tactic(auto, unfolding(crate::specs::Item::closing))]
+    fn closing(self, mark: u8, item: Item) -> Token
+        ensures { result ≡ closing self.entry.s.now self.entry.at mark item }
+    {
+        if self.byte() == mark {
+            self.one_byte(item)
+        } else {
+            Token::Unfit(self.at)
+        }
+    }
+
+    // An external field, the tenth at the most, as a whole.
+    #[tactic(auto, unfolding(crate::specs::Item::whole_field))]
+    fn whole_field(self, seen: Seen) -> Token
+        requires { self.at < length self.s.now }
+        ensures { result ≡ whole_field self.entry.s.now self.entry.at seen }
+    {
+        if FIELDS <= seen.fields {
+            Token::Unfit(self.at)
+        } else {
+            self.next()
+                .past_characters()
+                .closing(0x12, Item::FieldCloses)
+        }
+    }
+
+    // What a byte that ends a block opens.
+    fn opening(self, kind: Kind, seen: Seen) -> Token
+        ensures { result ≡ opening self.entry.s.now self.entry.at kind seen }
+    {
+        match kind {
+            Kind::Line => self.opens(seen.lines, LINES, Item::LineOpens),
+            Kind::Expansion => self.open_block(),
+            _ => Token::Ends,
+        }
+    }
+
+    // The same where a token is found already.
+    fn opened(self, found: Token, seen: Seen) -> Token
+        ensures { result ≡ opened self.entry.s.now self.entry.at found seen }
+    {
+        match found {
+            Token::Ends => self.opening(self.kind(), seen),
+            _ => found,
+        }
     }
 }
 
-// The same where a token is found already.
-fn opened(s: &[u8], at: usize, found: Token, seen: Seen) -> Token
+// What stands at a place in a block for the test, by its first byte: external fields and date items are passed as a whole, and a byte
+// that ends the block is left to it.
+#[tactic(auto, using(crate::proofs::Tokens::field_stands, crate::proofs::Tokens::date_stands))]
+pub(crate) fn item_at(s: &[u8], at: usize, seen: Seen) -> Token
     requires { at ≤ length s.now }
-    ensures { result ≡ opened s.now at found seen }
+    ensures { result ≡ item_at s.now at (kind_of (get_or s.now at 0)) seen }
 {
-    match found {
-        Token::Read { item, next } => Token::Read { item, next },
-        Token::Ends => opening(s, at, kind_at(s, at), seen),
-        Token::Unfit(i) => Token::Unfit(i),
+    let here = Point { s, at };
+    match here.kind() {
+        Kind::Field => here.whole_field(seen),
+        Kind::Date => here.next().past_codes().closing(0x1B, Item::DateCloses),
+        kind => here.block_token(kind, seen),
     }
 }
 
-// What stands at a place for the positions: a date item's codes are passed with the mark behind them.
-pub(crate) fn piece_at(s: &[u8], at: usize, place: Place, seen: Seen) -> Token
-    requires { at ≤ length s.now }
-    ensures { result ≡ piece_at s.now at place seen }
+// What stands where the reader does: for the strip each code by itself, for the positions a date item's codes passed with the mark behind
+// them. Each of the two is compiled by itself, for speed.
+pub(crate) fn token_at<const EACH: bool>(s: &[u8], reader: Reader) -> Token
+    requires { reader.at ≤ length s.now }
+    ensures { result ≡ pick EACH (token_at s.now reader.at reader.place reader.seen) (piece_at s.now reader.at reader.place reader.seen) }
 {
+    let Reader { at, place, seen } = reader;
+    let here = Point { s, at };
     match place {
-        Place::Date => date_token(s, codes_end(s, at)),
-        Place::Content => content_token(s, at, seen),
-        Place::Line => line_token(s, at),
-        Place::Block => opened(s, at, block_token(s, at, kind_at(s, at), seen), seen),
-        Place::Field => field_token(s, at),
-    }
-}
-
-// What stands at a place for the strip: each code by itself.
-pub(crate) fn token_at(s: &[u8], at: usize, place: Place, seen: Seen) -> Token
-    requires { at ≤ length s.now }
-    ensures { result ≡ token_at s.now at place seen }
-{
-    match place {
-        Place::Content => content_token(s, at, seen),
-        Place::Line => line_token(s, at),
-        Place::Block => opened(s, at, block_token(s, at, kind_at(s, at), seen), seen),
-        Place::Field => field_token(s, at),
-        Place::Date => date_token(s, at),
+        Place::Content => here.content_token(seen),
+        Place::Line => here.line_token(),
+        Place::Block => here.opened(here.block_token(here.kind(), seen), seen),
+        Place::Field => here.field_token(),
+        Place::Date if EACH => here.date_token(),
+        Place::Date => here.past_codes().date_token(),
     }
 }

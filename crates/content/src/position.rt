@@ -2,26 +2,22 @@
 ghost use Rattle.std.specs.Prelude.{◌≤◌, length, ◌≡◌};
 ghost use Rattle.content.specs.Position.{Runs, field_positions, is_field_position, is_position, item_mark};
 
-use crate::item::{Item, Reader, Token, begin, past, piece_at};
+use crate::item::{Item, Reader, Token, begin, past, token_at};
 
 // What a byte is to edits and updates.
-#[derive(Clone, Copy)]
+#[derive(Clone, Copy, Debug, PartialEq, Eq)]
 pub enum Mark {
     Structure,
     Character,
     FieldCharacter,
 }
 
-// The next character positions in a row.
-#[derive(Clone, Copy)]
-pub enum Run {
-    // What they are, from which place on they stand, and where the reader stands behind them.
-    Found {
-        mark: Mark,
-        from: usize,
-        next: Reader,
-    },
-    None,
+// Character positions in a row: what they are, from which place on they stand, and where the reader stands behind them.
+#[derive(Clone, Copy, Debug, PartialEq, Eq)]
+pub struct Run {
+    pub mark: Mark,
+    pub from: usize,
+    pub next: Reader,
 }
 
 // What the bytes of an item are.
@@ -38,54 +34,34 @@ fn item_mark(item: Item) -> Mark
 fn is_position(mark: Mark) -> bool
     ensures { result ≡ is_position mark }
 {
-    match mark {
-        Mark::Structure => false,
-        Mark::Character => true,
-        Mark::FieldCharacter => true,
-    }
+    mark != Mark::Structure
 }
 
 pub(crate) fn is_field_position(mark: Mark) -> bool
     ensures { result ≡ is_field_position mark }
 {
-    match mark {
-        Mark::Structure => false,
-        Mark::Character => false,
-        Mark::FieldCharacter => true,
-    }
+    mark == Mark::FieldCharacter
 }
 
-// The first character positions from where the reader stands.
-pub(crate) fn run_at(s: &[u8], start: Reader) -> Run
+// The first character positions from where the reader stands, if there are any.
+pub(crate) fn run_at(s: &[u8], start: Reader) -> Option<Run>
     requires { start.at ≤ length s.now }
     ensures { Runs s.now start result }
 {
     let mut reader = start;
-    loop {
-        let at = reader.at;
-        let place = reader.place;
-        let seen = reader.seen;
-        let found = piece_at(s, at, place, seen);
-        match found {
-            Token::Read { item, next } => {
-                reader = past(reader, item, next);
-                let mark = item_mark(item);
-                if is_position(mark) {
-                    return Run::Found {
-                        mark,
-                        from: at,
-                        next: reader,
-                    };
-                }
-            }
-            Token::Ends => {
-                return Run::None;
-            }
-            Token::Unfit(_) => {
-                return Run::None;
-            }
+    while let Token::Read { item, next } = token_at::<false>(s, reader) {
+        let from = reader.at;
+        let mark = item_mark(item);
+        reader = past(reader, item, next);
+        if is_position(mark) {
+            return Some(Run {
+                mark,
+                from,
+                next: reader,
+            });
         }
     }
+    None
 }
 
 // How many character positions the external fields of a content have.
@@ -94,18 +70,11 @@ pub fn field_positions(s: &[u8]) -> usize
 {
     let mut count = 0;
     let mut reader = begin();
-    loop {
-        let run = run_at(s, reader);
-        match run {
-            Run::Found { mark, from, next } => {
-                if is_field_position(mark) {
-                    count += next.at - from;
-                }
-                reader = next;
-            }
-            Run::None => {
-                return count;
-            }
+    while let Some(run) = run_at(s, reader) {
+        reader = run.next;
+        if is_field_position(run.mark) {
+            count += reader.at - run.from;
         }
     }
+    count
 }

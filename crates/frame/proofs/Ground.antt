@@ -6,16 +6,15 @@ use mathlib.Core.Path.{◌≡◌, refl, sym, ◌∙◌, ap, ap₂, subst}
 use native.Mathlib.Nat.{not-suc-le-zero, le_of_suc-le-suc}
 use native.Mathlib.Numerals.{add-one}
 use native.Mathlib.Omega.{arith}
+use Rattle.std.proofs.Common.{Option, Some, None}
 use borrow.Author.Rules.{rules}
 use borrow.Author.Tests.{eq-eqb, ne_eqb, lt-ltb, le-ltb, le-leb, lt-leb, leb-true, ltb-true, ltb-false}
 use borrow.Rule.Slice.PartMut.{mid_of, put_mid}
 use lib.Dec.{eqb, leb, ltb}
 use lib.ListN.{length, get_or, take, drop, set, length-append, length-take, length-drop, drop_of_length-le, take-append-drop, get_or-eq_default}
-use lib.Seq.{drop-cons, drop-drop, drop-append-add, length-take-le, append_snoc, set_at, take_at, drop_at, take_all, take-length, get_or-take, get_or-drop}
+use lib.Seq.{drop-cons, drop-drop, drop-append-add, length-take-le, append_snoc, set_at, take_at, drop_at, take_all, take-length}
 use Rattle.frame.specs.Ground.{pick, unless, both, plain, Test, checked, given, first_failing, all, every, each, joined, within, over}
 use Rattle.frame.specs.declared.given.Given.{Given}
-use Rattle.frame.specs.declared.given.Where.{Where}
-use Rattle.frame.specs.declared.given.Where.TheVariants.{Nowhere, At}
 use Rattle.frame.specs.Numbers.{has_place}
 use Rattle.frame.specs.Wire.{longest_update}
 use Rattle.frame.specs.Receive.{run, text_space}
@@ -128,9 +127,9 @@ plain_given (t ∷ ts) e =
     let h = both_true (not (has_place t.otherwise.place)) (placeless ts) e in
     go t.holds t.otherwise h.0 (plain_given ts h.1)
   where
-    alone : (n : ℕ) (w : Where) → not (has_place w) ≡ true → plain n ≡ record { number = n; place = w }
-    alone n Nowhere e = refl
-    alone n (At i) e = never e
+    alone : (n : ℕ) (w : Option ℕ) → not (has_place w) ≡ true → plain n ≡ record { number = n; place = w }
+    alone n None e = refl
+    alone n (Some i) e = never e
 
     go : (h : Bool) (g : Given) → not (has_place g.place) ≡ true → plain (first_failing ts) ≡ given ts
         → plain (unless h g.number (first_failing ts)) ≡ unless h g (given ts)
@@ -316,15 +315,6 @@ laid_behind a w d before last r xs e h q p =
     subst (λ (l : List ℕ). Lays (mid_of a (length l - a) l) d r last → put_mid a (length l - a) l last ≡ over (w ++ d) before) (sym q) (laid_here a w d before last r e h) p
 
 -- ---- The bytes before the first b.
-pub run_here : (b : ℕ) (s : List ℕ) (n : ℕ) → n < length s → get_or s n 0 ≡ b → run b (drop n s) ≡ 0
-run_here b s n h e = rw (drop-cons s n 0 h, eq-eqb (get_or s n 0) b e)
-
-pub run_past : (b : ℕ) (s : List ℕ) (n : ℕ) → n < length s → (get_or s n 0 ≡ b → ⊥) → run b (drop n s) ≡ run b (drop (n + 1) s) + 1
-run_past b s n h e = rw (add-one n, drop-cons s n 0 h, ne_eqb (get_or s n 0) b e)
-
-pub run_end : (b : ℕ) (s : List ℕ) (n : ℕ) → length s ≤ n → run b (drop n s) ≡ 0
-run_end b s n h = rw (drop_of_length-le s {i = n} h)
-
 -- The first b and what stands before it give the count, whatever stands behind.
 pub run_kept : (b : ℕ) (s rest : List ℕ) → run b s < length s → run b (take (suc (run b s)) s ++ rest) ≡ run b s
 run_kept b [] rest h = absurd (not-suc-le-zero h)
@@ -339,9 +329,3 @@ run_kept b (x ∷ s) rest h = go (eqb x b) refl (λ g. run_kept b s rest g)
 
 pub text_length : (s : List ℕ) → length (text_space s) ≡ min (longest_update + 1) (length s - 1)
 text_length s = simp (length-take, length-drop)
-
-pub text_at : (s : List ℕ) (n : ℕ) → n < (longest_update + 1) → get_or (text_space s) n 0 ≡ get_or s (n + 1) 0
-text_at s n h = get_or-take (longest_update + 1) (drop 1 s) n 0 h ∙ get_or-drop 1 s n 0 ∙ ap (λ (k : ℕ). get_or s k 0) (swap n)
-  where
-    swap : (n : ℕ) → 1 + n ≡ n + 1
-    swap n = omega arith

@@ -8,9 +8,11 @@ use borrow.Author.Tests.{ltb-true}
 use lib.Dec.{eqb, ltb}
 use lib.ListN.{length, get_or, take}
 use Rattle.frame.specs.Ground.{unless}
+use Rattle.frame.specs.Given.{given_of}
 use Rattle.frame.specs.Wire.{enquiry, update_opens, update_closes, check, size_of, listed, fits, longest_update, update_marks, head_size, around, longest_data}
 use Rattle.frame.specs.Receive.{received, updated, framed, judged, run, text_space, data_length}
 use Rattle.frame.specs.declared.receive.Received.{Received}
+use Rattle.frame.specs.declared.given.Refusal.TheVariants.{WrongLength}
 use Rattle.frame.specs.declared.receive.Received.TheVariants.{Partial, Refused, Misfit, Enquiry, Update, Frame}
 use Rattle.frame.proofs.Ground.{pick_case, unless_case, text_length}
 use Rattle.frame.proofs.Laws.{frame_whole}
@@ -18,8 +20,8 @@ use Rattle.frame.proofs.Laws.{frame_whole}
 -- What each case tells; a refusal's number is never one of the silent 1 to 3, nor 0.
 abbrev pub Sound : List ℕ → Received → Type 0
 Sound s Partial = Unit {0}
-Sound s (Refused k c) = 4 ≤ k
-Sound s (Misfit k i n c) = 4 ≤ k
+Sound s (Refused why c) = 4 ≤ (given_of why).number
+Sound s (Misfit why i n c) = 4 ≤ (given_of why).number
 Sound s Enquiry = Unit {0}
 Sound s (Update n c) = n + update_marks ≤ length s
 Sound s (Frame i n c) = fits (size_of i) n ≡ true
@@ -35,7 +37,7 @@ sound_judged : (s : List ℕ) (i n : ℕ) → Sound s (judged i n)
 unfolding judged
 sound_judged s i n = unless_case (Sound s) (listed (size_of i)) _ _ (omega arith) (go (fits (size_of i) n) refl)
   where
-    go : (t : Bool) → fits (size_of i) n ≡ t → Sound s (unless t (Misfit 7 i n (n + around)) (Frame i n (n + around)))
+    go : (t : Bool) → fits (size_of i) n ≡ t → Sound s (unless t (Misfit WrongLength i n (n + around)) (Frame i n (n + around)))
     go true e = e
     go false e = omega arith
 

@@ -13,11 +13,12 @@ use Rattle.frame.specs.Wire.{enquiry, update_opens, update_closes, longest_updat
 use Rattle.frame.specs.Receive.{received, updated, framed, run, text_space, data_length}
 use Rattle.frame.specs.Holding.{free_of, is_held}
 use Rattle.frame.specs.declared.receive.Received.{Received}
+use Rattle.frame.specs.declared.given.Refusal.TheVariants.{TooLong}
 use Rattle.frame.specs.declared.receive.Received.TheVariants.{Partial, Refused, Misfit, Enquiry, Update, Frame}
 use Rattle.frame.proofs.Laws.{verified, verified_case}
 
 -- ---- No 03h is among bytes exactly where all of them stand before the first.
-pub run_most : (b : ℕ) (s : List ℕ) → run b s ≤ length s
+run_most : (b : ℕ) (s : List ℕ) → run b s ≤ length s
 run_most b [] = omega arith
 run_most b (x ∷ s) = go (eqb x b) (run_most b s)
   where
@@ -25,7 +26,7 @@ run_most b (x ∷ s) = go (eqb x b) (run_most b s)
     go true again = omega arith
     go false again = omega (arith, again)
 
-pub eqb_next : (m n : ℕ) → eqb (m + 1) (suc n) ≡ eqb m n
+eqb_next : (m n : ℕ) → eqb (m + 1) (suc n) ≡ eqb m n
 eqb_next m n = go (eqb m n) refl
   where
     go : (t : Bool) → eqb m n ≡ t → eqb (m + 1) (suc n) ≡ eqb m n
@@ -41,10 +42,10 @@ free_run b (x ∷ s) = go (eqb x b) (free_run b s)
     go false again = eqb_next (run b s) (length s) ∙ again
 
 -- Of an update that is not too long, the text is all behind the 02h.
-pub short_text : (s : List ℕ) → length s ≤ longest_update + 1 → text_space s ≡ drop 1 s
+short_text : (s : List ℕ) → length s ≤ longest_update + 1 → text_space s ≡ drop 1 s
 short_text s h = take_all (longest_update + 1) (drop 1 s) (simp length-drop (omega arith))
 
-pub free_text : (s : List ℕ) → length s ≤ longest_update + 1 → eqb (run update_closes (text_space s)) (length (text_space s)) ≡ free_of update_closes (drop 1 s)
+free_text : (s : List ℕ) → length s ≤ longest_update + 1 → eqb (run update_closes (text_space s)) (length (text_space s)) ≡ free_of update_closes (drop 1 s)
 free_text s h = ap (λ (t : List ℕ). eqb (run update_closes t) (length t)) (short_text s h) ∙ free_run update_closes (drop 1 s)
 
 -- ---- What is not whole yet.
@@ -111,7 +112,7 @@ held_frame s n = go (ltb (length s) head_size) (leb n longest_data) refl (leb (l
   where
     go : (t u : Bool) → leb n longest_data ≡ u → (v : Bool) → leb (length s) (n + head_size) ≡ v
         → pick t true (both u v)
-        ≡ is_partial (pick t Partial (pick (ltb longest_data n) (Refused 4 (length s)) (pick (ltb (length s) (n + around)) Partial (verified s n))))
+        ≡ is_partial (pick t Partial (pick (ltb longest_data n) (Refused TooLong (length s)) (pick (ltb (length s) (n + around)) Partial (verified s n))))
     go true u e v f = refl
     go false false e v f = rw (lt-ltb longest_data n (omega (arith, leb-false n longest_data e))) refl
     go false true e true f =

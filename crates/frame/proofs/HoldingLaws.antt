@@ -9,12 +9,14 @@ use lib.Dec.{eqb, leb, ltb}
 use lib.ListN.{length, get_or, set, take, drop, take-append-drop, length-append, length-drop, length-set, get_or-append}
 use lib.Seq.{append_snoc, take-append-le, take-suc-set, take_all, take-length, drop-append-le, length-take-le}
 use Rattle.frame.specs.Ground.{within}
+use Rattle.frame.specs.Given.{given_of}
 use Rattle.frame.specs.Wire.{enquiry, update_opens, update_closes, word, longest_update, update_marks, head_size, around, longest_data}
 use Rattle.frame.specs.Receive.{received, updated, framed, run, text_space, data_length, number, consumed}
 use Rattle.frame.specs.Holding.{holding_size, is_held, is_holding}
 use Rattle.frame.specs.HoldingLaws.{ByteCompletes, Follows, FourStays, HeldPartial, HoldingExactly, HoldingFollows, Left, LeftBySome, LeftExactly, SilenceEmpties, dropping, leaves_from, left_behind, left_by, waiting}
 use Rattle.frame.specs.declared.holding.Holding.TheVariants.{Held, Dropping}
 use Rattle.frame.specs.declared.receive.Received.{Received}
+use Rattle.frame.specs.declared.given.Refusal.TheVariants.{TooLong}
 use Rattle.frame.specs.declared.receive.Received.TheVariants.{Partial, Refused, Misfit, Enquiry, Update, Frame}
 use Rattle.frame.proofs.Ground.{both_true, pick_case}
 use Rattle.frame.proofs.Laws.{consumed_whole, verified, verified_case}
@@ -32,10 +34,10 @@ held_three s e = ap number ((held_partial s).0 e)
 -- ---- 4 stays 4.
 -- The answers that have the number 4: an update without an end, and a frame that is too long.
 unfoldable FourIs : List ℕ → Received → Type 0
-FourIs s r = number r ≡ 4 → (rest : List ℕ) → received (s ++ rest) ≡ Refused 4 (length (s ++ rest))
+FourIs s r = number r ≡ 4 → (rest : List ℕ) → received (s ++ rest) ≡ Refused TooLong (length (s ++ rest))
 
 four_framed : (s : List ℕ) → (get_or s 0 0 ≡ enquiry → ⊥) → (get_or s 0 0 ≡ update_opens → ⊥) → head_size ≤ length s → longest_data < data_length s
-    → received s ≡ Refused 4 (length s)
+    → received s ≡ Refused TooLong (length s)
 unfolding received framed
 four_framed s h₅ h₂ g m =
     rw (
@@ -47,7 +49,7 @@ four_framed s h₅ h₂ g m =
     )
 
 four_updated : (s : List ℕ) → get_or s 0 0 ≡ update_opens → length (text_space s) ≤ run update_closes (text_space s) → longest_update + update_marks ≤ length s
-    → received s ≡ Refused 4 (length s)
+    → received s ≡ Refused TooLong (length s)
 unfolding received updated
 four_updated s e h g =
     rw (
@@ -150,8 +152,8 @@ byte_completes s byte rest e three four =
 -- The number 3 is that of what is not whole, and 1 and 2 are none of the receiver's.
 by_number : (P : ℕ → Received → Type 0) (s : List ℕ) (r : Received) → Sound s r → P 3 Partial → P 0 r → ((k : ℕ) → 4 ≤ k → P k r) → P (number r) r
 by_number P s Partial h three none more = three
-by_number P s (Refused k c) h three none more = more k h
-by_number P s (Misfit k i n c) h three none more = more k h
+by_number P s (Refused why c) h three none more = more (given_of why).number h
+by_number P s (Misfit why i n c) h three none more = more (given_of why).number h
 by_number P s Enquiry h three none more = none
 by_number P s (Update n c) h three none more = none
 by_number P s (Frame i n c) h three none more = none

@@ -15,6 +15,7 @@ use Rattle.frame.specs.Receive.{received, updated, framed, judged, run, text_spa
 use Rattle.frame.specs.Build.{frame, body, answer_tests, build_tests, answered, built}
 use Rattle.frame.specs.Laws.{heard, heard_in, ReadBack, BuiltReadBack, AnswerReadBack, WrapReadBack, Whole, ConsumedWhole, FrameWhole, ConsumedInside, UpdateHeard}
 use Rattle.frame.specs.declared.receive.Received.{Received}
+use Rattle.frame.specs.declared.given.Refusal.TheVariants.{TooLong, WrongCheck, UnknownIdentifier, WrongLength}
 use Rattle.frame.specs.declared.receive.Received.TheVariants.{Partial, Refused, Misfit, Enquiry, Update, Frame}
 use Rattle.frame.proofs.Ground.{text_length, pick_case, unless_case, both_true, run_kept}
 use Rattle.frame.proofs.Told.{data_held, accepted}
@@ -22,15 +23,15 @@ pub use Rattle.frame.proofs.Told.{frame_length}
 
 -- ---- A frame that is long enough.
 unfoldable pub verified : List ℕ → ℕ → Received
-verified s n = unless (eqb (check (take (n + head_size) s)) (get_or s (n + head_size) 0)) (Refused 5 (n + around)) (judged (get_or s 0 0) n)
+verified s n = unless (eqb (check (take (n + head_size) s)) (get_or s (n + head_size) 0)) (Refused WrongCheck (n + around)) (judged (get_or s 0 0) n)
 
 -- What holds of each answer of the table, and of each answer of check byte and table.
-judged_case : (P : Received → Type 0) (i n : ℕ) → P (Misfit 6 i n (n + around)) → P (Misfit 7 i n (n + around)) → P (Frame i n (n + around)) → P (judged i n)
+judged_case : (P : Received → Type 0) (i n : ℕ) → P (Misfit UnknownIdentifier i n (n + around)) → P (Misfit WrongLength i n (n + around)) → P (Frame i n (n + around)) → P (judged i n)
 unfolding judged
 judged_case P i n six seven none = unless_case P (listed (size_of i)) _ _ six (unless_case P (fits (size_of i) n) _ _ seven none)
 
 pub verified_case : (P : Received → Type 0) (s : List ℕ) (n : ℕ)
-    → P (Refused 5 (n + around)) → ((i : ℕ) → P (Misfit 6 i n (n + around))) → ((i : ℕ) → P (Misfit 7 i n (n + around))) → ((i : ℕ) → P (Frame i n (n + around))) → P (verified s n)
+    → P (Refused WrongCheck (n + around)) → ((i : ℕ) → P (Misfit UnknownIdentifier i n (n + around))) → ((i : ℕ) → P (Misfit WrongLength i n (n + around))) → ((i : ℕ) → P (Frame i n (n + around))) → P (verified s n)
 unfolding verified
 verified_case P s n five six seven none =
     let i : ℕ = get_or s 0 0 in
@@ -63,7 +64,7 @@ received_frame identifier d rest h₅ h₂ m =
     ap check (take_at b (c ∷ rest) (length d + head_size) e) ∙ sym (get_or_at b c rest 0 (length d + head_size) e) in
     ap received (append_snoc b c rest)
     ∙ received_long (b ++ c ∷ rest) (length d) h₅ h₂ (div-add-mod' (length d) 256) m g
-    ∙ ap (λ (t : Bool). unless t (Refused 5 (length d + around)) (judged identifier (length d))) (eq-eqb _ _ q)
+    ∙ ap (λ (t : Bool). unless t (Refused WrongCheck (length d + around)) (judged identifier (length d))) (eq-eqb _ _ q)
 
 -- ---- What is heard of it.
 data_of_frame : (identifier : ℕ) (d rest : List ℕ) → take (length d) (drop 3 (frame identifier d ++ rest)) ≡ d
@@ -89,21 +90,21 @@ unfolding size_of
 not_update identifier h e = false≢true (subst (λ (k : ℕ). listed (size_of k) ≡ true) e h)
 
 judged_listed : (identifier n : ℕ) → listed (size_of identifier) ≡ true
-    → judged identifier n ≡ pick (fits (size_of identifier) n) (Frame identifier n (n + around)) (Misfit 7 identifier n (n + around))
+    → judged identifier n ≡ pick (fits (size_of identifier) n) (Frame identifier n (n + around)) (Misfit WrongLength identifier n (n + around))
 unfolding judged
 judged_listed identifier n h = rw h (swap (fits (size_of identifier) n))
   where
-    swap : (f : Bool) → unless f (Misfit 7 identifier n (n + around)) (Frame identifier n (n + around)) ≡ pick f (Frame identifier n (n + around)) (Misfit 7 identifier n (n + around))
+    swap : (f : Bool) → unless f (Misfit WrongLength identifier n (n + around)) (Frame identifier n (n + around)) ≡ pick f (Frame identifier n (n + around)) (Misfit WrongLength identifier n (n + around))
     swap true = refl
     swap false = refl
 
-number_picked : (f : Bool) (i n c : ℕ) → number (pick f (Frame i n c) (Misfit 7 i n c)) ≡ pick f 0 7
+number_picked : (f : Bool) (i n c : ℕ) → number (pick f (Frame i n c) (Misfit WrongLength i n c)) ≡ pick f 0 7
 number_picked true i n c = refl
 number_picked false i n c = refl
 
 pub read_back : ReadBack
 read_back identifier d rest h m =
-    let a : received (frame identifier d ++ rest) ≡ pick (fits (size_of identifier) (length d)) (Frame identifier (length d) (length d + around)) (Misfit 7 identifier (length d) (length d + around)) =
+    let a : received (frame identifier d ++ rest) ≡ pick (fits (size_of identifier) (length d)) (Frame identifier (length d) (length d + around)) (Misfit WrongLength identifier (length d) (length d + around)) =
     received_frame identifier d rest (not_enquiry identifier h) (not_update identifier h) m ∙ judged_listed identifier (length d) h in
     record {
       answer = a;
@@ -201,7 +202,7 @@ taken_partial : (s : List ℕ) → Taken s Partial
 unfolding expected
 taken_partial s = record { inside = omega arith; counted = refl; same = λ three four rest. absurd (three refl) }
 
-taken_refused : (s : List ℕ) → Taken s (Refused 4 (length s))
+taken_refused : (s : List ℕ) → Taken s (Refused TooLong (length s))
 unfolding expected
 taken_refused s = record { inside = omega arith; counted = refl; same = λ three four rest. absurd (four refl) }
 

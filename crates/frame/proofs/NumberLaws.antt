@@ -19,6 +19,7 @@ use Rattle.frame.specs.Build as build
 use Rattle.frame.specs.Build.{answer_tests, build_tests}
 use Rattle.frame.specs.NumberLaws.{not_whole, too_long, ThreeFourApart, NumbersGiven, frame_tests, is_frame, receive_tests, InOrder, CallsGiveFirst}
 use Rattle.frame.specs.declared.receive.Received.{Received}
+use Rattle.frame.specs.declared.given.Refusal.TheVariants.{TooLong, WrongCheck, UnknownIdentifier, WrongLength}
 use Rattle.frame.specs.declared.receive.Received.TheVariants.{Partial, Refused, Misfit, Enquiry, Update, Frame}
 use Rattle.frame.proofs.Ground.{pick_case, never, placeless}
 use Rattle.frame.proofs.Numbers.{first_given, first_number}
@@ -59,7 +60,7 @@ same_where : (y a b : Bool) → (y ≡ true → a ≡ b) → (y && not a) ≡ (y
 same_where true a b h = ap not (h refl)
 same_where false a b h = refl
 
-update_numbers : (a b : Bool) (n c k : ℕ) → let r : Received = pick a (Update n c) (pick b Partial (Refused 4 k)) in (eqb (number r) 3 ≡ (b && not a)) × (eqb (number r) 4 ≡ (not b && not a))
+update_numbers : (a b : Bool) (n c k : ℕ) → let r : Received = pick a (Update n c) (pick b Partial (Refused TooLong k)) in (eqb (number r) 3 ≡ (b && not a)) × (eqb (number r) 4 ≡ (not b && not a))
 update_numbers true true n c k = (refl, refl)
 update_numbers true false n c k = (refl, refl)
 update_numbers false true n c k = (refl, refl)
@@ -81,7 +82,7 @@ module _ (x : ℕ) (s : List ℕ) (e : x ≡ update_opens) where
 
 -- ---- A frame.
 frame_numbers : (a b c : Bool) (r : Received) (k : ℕ) → eqb (number r) 3 ≡ false → eqb (number r) 4 ≡ false
-    → let f : Received = pick a Partial (pick b (Refused 4 k) (pick c Partial r)) in (eqb (number f) 3 ≡ (a || (not b && c))) × (eqb (number f) 4 ≡ (not a && b))
+    → let f : Received = pick a Partial (pick b (Refused TooLong k) (pick c Partial r)) in (eqb (number f) 3 ≡ (a || (not b && c))) × (eqb (number f) 4 ≡ (not a && b))
 frame_numbers true b c r k three four = (refl, refl)
 frame_numbers false true c r k three four = (refl, refl)
 frame_numbers false false true r k three four = (refl, refl)
@@ -185,7 +186,7 @@ verified_number s =
     let n : ℕ = data_length s in
     go (eqb (check (take (n + head_size) s)) (get_or s (n + head_size) 0)) (listed (size_of i)) (fits (size_of i) n) i n (n + around)
   where
-    go : (a b c : Bool) (i n k : ℕ) → number (unless a (Refused 5 k) (unless b (Misfit 6 i n k) (unless c (Misfit 7 i n k) (Frame i n k)))) ≡ unless a 5 (unless b 6 (unless c 7 0))
+    go : (a b c : Bool) (i n k : ℕ) → number (unless a (Refused WrongCheck k) (unless b (Misfit UnknownIdentifier i n k) (unless c (Misfit WrongLength i n k) (Frame i n k)))) ≡ unless a 5 (unless b 6 (unless c 7 0))
     go true true true i n k = refl
     go true true false i n k = refl
     go true false c i n k = refl

@@ -7,11 +7,11 @@ use lib.ListN.{replicate}
 use Rattle.frame.specs.Ground.{plain}
 use Rattle.frame.specs.Wire.{size_of}
 use Rattle.frame.specs.Receive.{received, updated, framed, judged}
-use Rattle.frame.specs.Build.{frame, built}
+use Rattle.frame.specs.Build.{Built, frame, built}
 use Rattle.frame.specs.declared.receive.Received.{Received}
+use Rattle.frame.specs.declared.given.Refusal.TheVariants.{TooLong, WrongCheck, UnknownIdentifier, WrongLength}
 use Rattle.frame.specs.declared.receive.Received.TheVariants.{Partial, Refused, Misfit, Enquiry, Update, Frame}
-use Rattle.frame.specs.declared.build.Built.{Built}
-use Rattle.frame.specs.declared.build.Built.TheVariants as builder
+use Rattle.std.proofs.Common.{Ok, Err}
 
 pub record Sample : Type 0 where
   pub bytes : List ℕ
@@ -36,29 +36,29 @@ opened n = 0x02 ∷ replicate n 0x41
 abbrev samples : List Sample
 samples =
     sample (frame_a 0x07) (Frame 0x0A 19 23)
-    ∷ sample (frame_a 0x06) (Refused 5 23)
+    ∷ sample (frame_a 0x06) (Refused WrongCheck 23)
     ∷ sample [] Partial
     ∷ sample (0x05 ∷ []) Enquiry
     ∷ sample (0x02 ∷ 0x41 ∷ 0x42 ∷ 0x03 ∷ []) (Update 2 4)
     ∷ sample (opened 1022 ++ 0x03 ∷ []) (Update 1022 1024)
     ∷ sample (opened 1022) Partial
-    ∷ sample (opened 1023) (Refused 4 1024)
-    ∷ sample (opened 1023 ++ 0x03 ∷ []) (Refused 4 1025)
-    ∷ sample (0x0A ∷ 0x02 ∷ 0x27 ∷ []) (Refused 4 3)
+    ∷ sample (opened 1023) (Refused TooLong 1024)
+    ∷ sample (opened 1023 ++ 0x03 ∷ []) (Refused TooLong 1025)
+    ∷ sample (0x0A ∷ 0x02 ∷ 0x27 ∷ []) (Refused TooLong 3)
     ∷ sample (0x0A ∷ 0x02 ∷ 0x26 ∷ []) Partial
     ∷ sample (0x94 ∷ 0x00 ∷ 0x00 ∷ 0x94 ∷ []) (Frame 0x94 0 4)
-    ∷ sample (0x94 ∷ 0x00 ∷ 0x01 ∷ 0x00 ∷ 0x95 ∷ []) (Misfit 7 0x94 1 5)
-    ∷ sample (0x99 ∷ 0x00 ∷ 0x00 ∷ 0x99 ∷ []) (Misfit 6 0x99 0 4)
-    ∷ sample (0x9C ∷ 0x00 ∷ 0x00 ∷ 0x9C ∷ []) (Misfit 6 0x9C 0 4)
-    ∷ sample (0x99 ∷ 0x00 ∷ 0x00 ∷ 0x98 ∷ []) (Refused 5 4)
-    ∷ sample (0x94 ∷ 0x00 ∷ 0x01 ∷ 0x00 ∷ 0x94 ∷ []) (Refused 5 5)
+    ∷ sample (0x94 ∷ 0x00 ∷ 0x01 ∷ 0x00 ∷ 0x95 ∷ []) (Misfit WrongLength 0x94 1 5)
+    ∷ sample (0x99 ∷ 0x00 ∷ 0x00 ∷ 0x99 ∷ []) (Misfit UnknownIdentifier 0x99 0 4)
+    ∷ sample (0x9C ∷ 0x00 ∷ 0x00 ∷ 0x9C ∷ []) (Misfit UnknownIdentifier 0x9C 0 4)
+    ∷ sample (0x99 ∷ 0x00 ∷ 0x00 ∷ 0x98 ∷ []) (Refused WrongCheck 4)
+    ∷ sample (0x94 ∷ 0x00 ∷ 0x01 ∷ 0x00 ∷ 0x94 ∷ []) (Refused WrongCheck 5)
     -- 02, Wish 1: 1Ch has "39 or more in all", 40h "two bytes".
-    ∷ sample (0x1C ∷ 0x00 ∷ 0x26 ∷ replicate 38 0x00 ++ 0x3A ∷ []) (Misfit 7 0x1C 38 42)
+    ∷ sample (0x1C ∷ 0x00 ∷ 0x26 ∷ replicate 38 0x00 ++ 0x3A ∷ []) (Misfit WrongLength 0x1C 38 42)
     ∷ sample (0x1C ∷ 0x00 ∷ 0x27 ∷ replicate 39 0x00 ++ 0x3B ∷ []) (Frame 0x1C 39 43)
     ∷ sample (0x1C ∷ 0x00 ∷ 0x28 ∷ replicate 40 0x00 ++ 0x34 ∷ []) (Frame 0x1C 40 44)
-    ∷ sample (0x40 ∷ 0x00 ∷ 0x01 ∷ 0x01 ∷ 0x40 ∷ []) (Misfit 7 0x40 1 5)
+    ∷ sample (0x40 ∷ 0x00 ∷ 0x01 ∷ 0x01 ∷ 0x40 ∷ []) (Misfit WrongLength 0x40 1 5)
     ∷ sample (0x40 ∷ 0x00 ∷ 0x02 ∷ 0x01 ∷ 0x05 ∷ 0x46 ∷ []) (Frame 0x40 2 6)
-    ∷ sample (0x40 ∷ 0x00 ∷ 0x03 ∷ 0x01 ∷ 0x05 ∷ 0x00 ∷ 0x47 ∷ []) (Misfit 7 0x40 3 7)
+    ∷ sample (0x40 ∷ 0x00 ∷ 0x03 ∷ 0x01 ∷ 0x05 ∷ 0x00 ∷ 0x47 ∷ []) (Misfit WrongLength 0x40 3 7)
     ∷ []
 
 pub samples_hold : map (λ (s : Sample). received s.bytes) samples ≡ map (λ (s : Sample). s.answer) samples
@@ -77,18 +77,18 @@ sent room identifier size answer = record { room = room; identifier = identifier
 
 abbrev sendings : List Sent
 sendings =
-    sent 4 0x94 0 (builder.Written 4)
-    ∷ sent 554 0x0A 550 (builder.Written 554)
-    ∷ sent 6144 0x42 5 (builder.Written 9)
-    ∷ sent 554 0x1C 550 (builder.Written 554)
-    ∷ sent 6 0x40 2 (builder.Written 6)
-    ∷ sent 3 0x94 0 (builder.Refused (plain 2))
-    ∷ sent 553 0x0A 550 (builder.Refused (plain 2))
-    ∷ sent 555 0x0A 551 (builder.Refused (plain 4))
-    ∷ sent 4 0x9C 0 (builder.Refused (plain 6))
-    ∷ sent 554 0x0A 551 (builder.Refused (plain 2))
-    ∷ sent 3 0x9C 0 (builder.Refused (plain 2))
-    ∷ sent 555 0x9C 551 (builder.Refused (plain 4))
+    sent 4 0x94 0 (Ok 4)
+    ∷ sent 554 0x0A 550 (Ok 554)
+    ∷ sent 6144 0x42 5 (Ok 9)
+    ∷ sent 554 0x1C 550 (Ok 554)
+    ∷ sent 6 0x40 2 (Ok 6)
+    ∷ sent 3 0x94 0 (Err (plain 2))
+    ∷ sent 553 0x0A 550 (Err (plain 2))
+    ∷ sent 555 0x0A 551 (Err (plain 4))
+    ∷ sent 4 0x9C 0 (Err (plain 6))
+    ∷ sent 554 0x0A 551 (Err (plain 2))
+    ∷ sent 3 0x9C 0 (Err (plain 2))
+    ∷ sent 555 0x9C 551 (Err (plain 4))
     ∷ []
 
 pub sendings_hold : map (λ (s : Sent). built s.room s.identifier s.size) sendings ≡ map (λ (s : Sent). s.answer) sendings

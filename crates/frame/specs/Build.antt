@@ -1,10 +1,8 @@
 -- How a frame is built, and the builder's numbers 2, 4 and 6.
-use Rattle.std.specs.Prelude.{ℕ, ◌+◌, Bool, List, [], ◌∷◌, ◌++◌, ◌≡◌, leb, length, take, drop}
+use Rattle.std.specs.Prelude.{ℕ, ◌+◌, Bool, Result, Ok, Err, List, [], ◌∷◌, ◌++◌, ◌≡◌, leb, length, take, drop}
 use Rattle.frame.specs.Ground.{pick, plain, Test, test, checked, given, over}
 use Rattle.frame.specs.Wire.{high, low, check, head_size, around, longest_data, size_of, listed}
 use Rattle.frame.specs.declared.given.Given.{Given}
-use Rattle.frame.specs.declared.build.Built.{Built}
-use Rattle.frame.specs.declared.build.Built.TheVariants.{Refused, Written}
 
 -- 01, On the wire: "A frame is identifier (1 byte), length (2), data, check byte."
 abbrev pub head : ℕ → ℕ → List ℕ
@@ -30,9 +28,13 @@ send_tests room known n = answer_tests room n ++ (test known 6 ∷ [])
 abbrev pub build_tests : ℕ → ℕ → ℕ → List Test
 build_tests room identifier n = send_tests room (listed (size_of identifier)) n
 
+-- What comes of writing a frame, or a strip: its length, or what is given.
+abbrev pub Built : Type 0
+Built = Result ℕ Given
+
 -- 01, Other calls: "nothing written; else its length".
 abbrev pub decided : List Test → ℕ → Built
-decided tests n = checked tests Refused (Written (n + around))
+decided tests n = checked tests (λ refusal. Err refusal) (Ok (n + around))
 
 unfoldable pub answered : ℕ → ℕ → Built
 answered room n = decided (answer_tests room n) n
@@ -42,17 +44,17 @@ built room identifier n = decided (build_tests room identifier n) n
 
 -- The bytes that an answer of the builder says are written.
 abbrev pub bytes_of : Built → ℕ → List ℕ → List ℕ
-bytes_of (Refused g) identifier d = []
-bytes_of (Written n) identifier d = frame identifier d
+bytes_of (Err g) identifier d = []
+bytes_of (Ok n) identifier d = frame identifier d
 
--- Its number, with the place where that has one, and the length given back.
-abbrev pub given_by : Built → Given
-given_by (Refused g) = g
-given_by (Written n) = plain 0
+-- What is given of an answer, 0 where it is done; and the length given back.
+abbrev pub given_by : {A : Type 0} → Result A Given → Given
+given_by (Err g) = g
+given_by (Ok n) = plain 0
 
 abbrev pub length_given : Built → ℕ
-length_given (Refused g) = 0
-length_given (Written n) = n
+length_given (Err g) = 0
+length_given (Ok n) = n
 
 -- 01, Numbers: "the first that applies is given"; 01, Other calls: "else its length", of just the bytes that are written.
 pub record Reports (tests : List Test) (bytes : List ℕ) (r : Built) : Type 0 where

@@ -1,7 +1,6 @@
 -- Words that the rules of all crates share.
-use Rattle.std.specs.Prelude.{ℕ, ◌+◌, Bool, true, false, ◌||◌, List, [], ◌∷◌, ◌++◌, ◌≡◌, eqb, leb, length, drop}
+use Rattle.std.specs.Prelude.{ℕ, ◌+◌, Bool, true, false, ◌||◌, None, Some, List, [], ◌∷◌, ◌++◌, ◌≡◌, eqb, leb, length, drop}
 use Rattle.frame.specs.declared.given.Given.{Given}
-use Rattle.frame.specs.declared.given.Where.TheVariants.{Nowhere, At}
 
 -- The first where the test holds, else the second.
 abbrev pub pick : {A : Type 0} → Bool → A → A → A
@@ -20,10 +19,10 @@ both false b = false
 
 -- What is given of a call: a number alone, or 02, Wish 4, a number that "shall carry a place".
 abbrev pub plain : ℕ → Given
-plain number = record { number = number; place = Nowhere }
+plain number = record { number = number; place = None }
 
 abbrev pub placed : ℕ → ℕ → Given
-placed number i = record { number = number; place = At i }
+placed number i = record { number = number; place = Some i }
 
 -- A test, and what is given where it fails: a number alone, or one with its place.
 pub record Test : Type 0 where

@@ -6,6 +6,7 @@ use Rattle.frame.specs.Receive.{received, number, consumed}
 use Rattle.frame.specs.Holding.{buffer_behind, holding_behind, is_held, is_holding, silenced}
 use Rattle.frame.specs.declared.holding.Holding.{Holding}
 use Rattle.frame.specs.declared.holding.Holding.TheVariants.{Held, Dropping}
+use Rattle.frame.specs.declared.given.Refusal.TheVariants.{TooLong}
 use Rattle.frame.specs.declared.receive.Received.TheVariants.{Partial, Refused}
 
 -- Bytes are held exactly while they are not whole.
@@ -86,4 +87,4 @@ ByteCompletes =
 
 -- 4 is 4 whatever stands behind it, and takes all of it.
 abbrev pub FourStays : Type 0
-FourStays = (s rest : List ℕ) → number (received s) ≡ 4 → received (s ++ rest) ≡ Refused 4 (length (s ++ rest))
+FourStays = (s rest : List ℕ) → number (received s) ≡ 4 → received (s ++ rest) ≡ Refused TooLong (length (s ++ rest))

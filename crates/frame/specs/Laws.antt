@@ -1,13 +1,13 @@
 -- What document 01 promises of frames and updates as a whole, as statements over the rules: what is built is read back, what is consumed is
 -- whole, and an update's text is all between its marks.
-use Rattle.std.specs.Prelude.{ℕ, ◌+◌, ◌≤◌, true, false, List, ◌∷◌, ◌++◌, ◌≡◌, length, take, drop}
+use Rattle.std.specs.Prelude.{ℕ, ◌+◌, ◌≤◌, true, false, Ok, List, ◌∷◌, ◌++◌, ◌≡◌, length, take, drop}
 use Rattle.frame.specs.Ground.{pick, has}
 use Rattle.frame.specs.Wire.{enquiry, update_opens, head_size, around, longest_data, size_of, listed, fits}
 use Rattle.frame.specs.Receive.{received, number, consumed}
 use Rattle.frame.specs.Build.{frame, Wraps, Answers, Builds}
 use Rattle.frame.specs.declared.receive.Received.{Received}
 use Rattle.frame.specs.declared.receive.Received.TheVariants.{Partial, Refused, Misfit, Enquiry, Update, Frame}
-use Rattle.frame.specs.declared.build.Built.TheVariants.{Written}
+use Rattle.frame.specs.declared.given.Refusal.TheVariants.{WrongLength}
 
 -- What the box hears of a frame: its identifier and its data.
 pub data Heard : Type 0 where
@@ -26,7 +26,7 @@ heard_in s (Frame i n c) = heard i (take n (drop head_size s))
 pub record ReadsBack (s : List ℕ) (identifier : ℕ) (d : List ℕ) : Type 0 where
   pub answer :
       received s ≡
-      pick (fits (size_of identifier) (length d)) (Frame identifier (length d) (length d + around)) (Misfit 7 identifier (length d) (length d + around))
+      pick (fits (size_of identifier) (length d)) (Frame identifier (length d) (length d + around)) (Misfit WrongLength identifier (length d) (length d + around))
   pub gives : number (received s) ≡ pick (fits (size_of identifier) (length d)) 0 7
   pub hears : heard_in s (received s) ≡ heard identifier d
 
@@ -40,21 +40,21 @@ ReadBack =
 abbrev pub BuiltReadBack : Type 0
 BuiltReadBack =
     (before : List ℕ) (identifier : ℕ) (d : List ℕ) (n : ℕ) (after rest : List ℕ)
-    → Builds before identifier d (Written n) after → ReadsBack (take n after ++ rest) identifier d
+    → Builds before identifier d (Ok n) after → ReadsBack (take n after ++ rest) identifier d
 
 -- The bytes that `answer` says it wrote, also with an identifier that stands only in answers.
 abbrev pub AnswerReadBack : Type 0
 AnswerReadBack =
     (before : List ℕ) (identifier : ℕ) (d : List ℕ) (n : ℕ) (after rest : List ℕ)
     → (identifier ≡ enquiry → ⊥) → (identifier ≡ update_opens → ⊥)
-    → Answers before identifier d (Written n) after → heard_in (take n after ++ rest) (received (take n after ++ rest)) ≡ heard identifier d
+    → Answers before identifier d (Ok n) after → heard_in (take n after ++ rest) (received (take n after ++ rest)) ≡ heard identifier d
 
 -- The bytes that `wrap` says it wrote, around data that stood in the buffer.
 abbrev pub WrapReadBack : Type 0
 WrapReadBack =
     (before : List ℕ) (identifier n m : ℕ) (after rest : List ℕ)
     → (identifier ≡ enquiry → ⊥) → (identifier ≡ update_opens → ⊥)
-    → Wraps before identifier n (Written m) after → heard_in (take m after ++ rest) (received (take m after ++ rest)) ≡ heard identifier (take n (drop head_size before))
+    → Wraps before identifier n (Ok m) after → heard_in (take m after ++ rest) (received (take m after ++ rest)) ≡ heard identifier (take n (drop head_size before))
 
 -- 01, Numbers: consumed is "the frame, update or 05h". It is received the same whatever stands behind it, and what stands behind it is left as it came.
 pub record Whole (s : List ℕ) (r : Received) : Type 0 where

@@ -2,6 +2,7 @@
 -- its page of rules; `NumberLaws` says which number is given, `Laws` what else holds of them together, `Unique` that no contract allows
 -- a second outcome.
 pub mod Ground
+pub mod Given
 pub mod Numbers
 pub mod Wire
 pub mod Receive

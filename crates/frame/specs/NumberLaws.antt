@@ -4,10 +4,9 @@ use Rattle.frame.specs.Ground.{pick, has, plain, Test, test}
 use Rattle.frame.specs.Numbers.{in_order, FirstGiven}
 use Rattle.frame.specs.Wire.{enquiry, update_opens, update_closes, longest_update, update_marks, check, head_size, around, longest_data, size_of, listed, fits}
 use Rattle.frame.specs.Receive.{received, data_length, number, Receives}
-use Rattle.frame.specs.Build.{answer_tests, build_tests, Wraps, Answers, Builds}
+use Rattle.frame.specs.Build.{Built, answer_tests, build_tests, Wraps, Answers, Builds}
 use Rattle.frame.specs.Build as build
 use Rattle.frame.specs.declared.receive.Received.{Received}
-use Rattle.frame.specs.declared.build.Built.{Built}
 
 -- 01, Numbers: "a frame is not whole with fewer than three bytes, or with a length up to 550 and fewer than length + 4;
 -- an update is not whole with fewer than 1,024 bytes and no 03h." No bytes are not whole, a 05h always is.

@@ -1,9 +1,7 @@
 -- The order of the numbers, stated once for the calls of all crates, and what it means that the first that applies is given.
-use Rattle.std.specs.Prelude.{ℕ, ◌+◌, ◌≤◌, Bool, true, false, not, List, [], ◌∷◌, ◌↔◌, ◌≡◌, eqb, leb}
+use Rattle.std.specs.Prelude.{ℕ, ◌+◌, ◌≤◌, Bool, true, false, not, Option, None, Some, List, [], ◌∷◌, ◌↔◌, ◌≡◌, eqb, leb}
 use Rattle.frame.specs.Ground.{pick, both, has, Test, given, all}
 use Rattle.frame.specs.declared.given.Given.{Given}
-use Rattle.frame.specs.declared.given.Where.{Where}
-use Rattle.frame.specs.declared.given.Where.TheVariants.{Nowhere, At}
 
 -- 01, Numbers, the table from top to bottom; then 01, Other calls. 02, Wish 1: 17 stands "after 8", 16 "after 10"; Wish 3: 18 "after 11 and
 -- before 12". A number that is added later stands where its request says.
@@ -22,9 +20,9 @@ rank n = rank_in numbers n
 abbrev pub with_place : List ℕ
 with_place = 10 ∷ 12 ∷ 13 ∷ []
 
-abbrev pub has_place : Where → Bool
-has_place Nowhere = false
-has_place (At i) = true
+abbrev pub has_place : Option ℕ → Bool
+has_place None = false
+has_place (Some i) = true
 
 -- Both hold, or neither does.
 abbrev pub same : Bool → Bool → Bool

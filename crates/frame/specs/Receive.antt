@@ -1,7 +1,9 @@
 -- What was received: document 01's numbers 3 to 7 in its order, an enquiry, an update, or a whole sound frame.
 use Rattle.std.specs.Prelude.{ℕ, ◌+◌, List, [], ◌∷◌, ◌≡◌, eqb, ltb, length, get_or, take, drop}
-use Rattle.frame.specs.Ground.{pick, unless, test, checked}
+use Rattle.frame.specs.Ground.{pick, unless}
+use Rattle.frame.specs.Given.{given_of}
 use Rattle.frame.specs.Wire.{enquiry, update_opens, update_closes, longest_update, update_marks, word, check, head_size, around, longest_data, size_of, listed, fits}
+use Rattle.frame.specs.declared.given.Refusal.TheVariants.{TooLong, WrongCheck, UnknownIdentifier, WrongLength}
 use Rattle.frame.specs.declared.receive.Received.{Received}
 use Rattle.frame.specs.declared.receive.Received.TheVariants.{Partial, Refused, Misfit, Enquiry, Update, Frame}
 
@@ -18,17 +20,13 @@ text_space s = take (longest_update + 1) (drop 1 s)
 unfoldable pub updated : List ℕ → ℕ → Received
 updated s n =
     pick (ltb n (length (text_space s))) (Update n (n + update_marks))
-    (pick (ltb (length s) (longest_update + update_marks)) Partial (Refused 4 (length s)))
+    (pick (ltb (length s) (longest_update + update_marks)) Partial (Refused TooLong (length s)))
 
 -- 01, Numbers: 6 "identifier not in the table", 7 "data length not as in the table": the frame is consumed.
 unfoldable pub judged : ℕ → ℕ → Received
 judged identifier n =
-    checked
-    (test (listed (size_of identifier)) 6
-    ∷ test (fits (size_of identifier) n) 7
-    ∷ [])
-    (λ refusal. Misfit refusal.number identifier n (n + around))
-    (Frame identifier n (n + around))
+    unless (listed (size_of identifier)) (Misfit UnknownIdentifier identifier n (n + around))
+    (unless (fits (size_of identifier) n) (Misfit WrongLength identifier n (n + around)) (Frame identifier n (n + around)))
 
 -- 01, On the wire: "A frame is identifier (1 byte), length (2), data, check byte. The length counts the data only."
 -- 01, Numbers: "a frame is not whole with fewer than three bytes, or with a length up to 550 and fewer than length + 4";
@@ -36,9 +34,9 @@ judged identifier n =
 unfoldable pub framed : List ℕ → ℕ → Received
 framed s n =
     pick (ltb (length s) head_size) Partial
-    (pick (ltb longest_data n) (Refused 4 (length s))
+    (pick (ltb longest_data n) (Refused TooLong (length s))
     (pick (ltb (length s) (n + around)) Partial
-    (unless (eqb (check (take (n + head_size) s)) (get_or s (n + head_size) 0)) (Refused 5 (n + around)) (judged (get_or s 0 0) n))))
+    (unless (eqb (check (take (n + head_size) s)) (get_or s (n + head_size) 0)) (Refused WrongCheck (n + around)) (judged (get_or s 0 0) n))))
 
 -- The length that a frame's second and third byte give.
 abbrev pub data_length : List ℕ → ℕ
@@ -55,8 +53,8 @@ received s =
 -- 01, Numbers: the number of each case, and the bytes it consumes.
 abbrev pub number : Received → ℕ
 number Partial = 3
-number (Refused k c) = k
-number (Misfit k i n c) = k
+number (Refused why c) = (given_of why).number
+number (Misfit why i n c) = (given_of why).number
 number Enquiry = 0
 number (Update n c) = 0
 number (Frame i n c) = 0

@@ -1,7 +1,9 @@
 -- Every contract has one outcome: two that meet it for the same inputs have the same answer and the same bytes after.
-use Rattle.std.specs.Prelude.{ℕ, Bool, List, ◌≡◌}
+use Rattle.std.specs.Prelude.{ℕ, Bool, Result, List, ◌≡◌}
 use Rattle.frame.specs.Ground.{OneAnswer, OneOutcome, placed, plain}
+use Rattle.frame.specs.Given.{given_in, given_of, numbered}
 use Rattle.frame.specs.declared.given.Given.{Given}
+use Rattle.frame.specs.declared.given.Refusal.{Refusal}
 use Rattle.frame.specs.Wire.{Words}
 use Rattle.frame.specs.Receive.{Receives}
 use Rattle.frame.specs.Build.{Lays, Wraps, Answers, Builds}
@@ -14,6 +16,16 @@ PlainUnique = (number : ℕ) → OneAnswer (λ (r : Given). r ≡ plain number)
 
 abbrev pub PlacedUnique : Type 0
 PlacedUnique = (number place : ℕ) → OneAnswer (λ (r : Given). r ≡ placed number place)
+
+-- What is given tells the refusal, and so the whole answer: where a contract speaks of what is given, the code's answer has no second value.
+abbrev pub RefusalUnique : Type 0
+RefusalUnique = (g : Given) → OneAnswer (λ (r : Refusal). given_of r ≡ g)
+
+abbrev pub OutcomeUnique : Type 0
+OutcomeUnique = (g : Given) → OneAnswer (λ (r : Result Unit Refusal). given_in r ≡ g)
+
+abbrev pub NumberedUnique : Type 1
+NumberedUnique = (A : Type 0) (b : Result A Given) → OneAnswer (λ (r : Result A Refusal). numbered r ≡ b)
 
 abbrev pub WordsUnique : Type 0
 WordsUnique = (high low : ℕ) → OneAnswer (Words high low)

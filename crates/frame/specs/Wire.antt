@@ -1,9 +1,9 @@
 -- What document 01 says of the wire: the bytes with a meaning, numbers of two bytes, the check byte, the table of identifiers.
-use Rattle.std.specs.Prelude.{ℕ, ◌+◌, ◌*◌, ◌/◌, ◌%◌, ◌<◌, Bool, true, false, List, [], ◌∷◌, ◌≡◌, eqb, leb}
+use Rattle.std.specs.Prelude.{ℕ, ◌+◌, ◌*◌, ◌/◌, ◌%◌, ◌<◌, Bool, true, false, Option, None, Some, List, [], ◌∷◌, ◌≡◌, eqb, leb}
 use Rattle.std.specs.Int.Bits.{bit_xor}
 use Rattle.frame.specs.Ground.{pick}
 use Rattle.frame.specs.declared.wire.Size.{Size}
-use Rattle.frame.specs.declared.wire.Size.TheVariants.{Exactly, AtLeast, Unlisted}
+use Rattle.frame.specs.declared.wire.Size.TheVariants.{Exactly, AtLeast}
 
 -- 01, On the wire: "A 05h where an identifier is expected is complete".
 abbrev pub enquiry : ℕ
@@ -76,25 +76,27 @@ table =
     ∷ row 0xD6 (Exactly 0)
     ∷ []
 
--- What the table says of an identifier's data length; `Unlisted` where it has no row.
-abbrev pub lookup : List Row → ℕ → Size
-lookup [] identifier = Unlisted
-lookup (r ∷ rows) identifier = pick (eqb identifier r.identifier) r.size (lookup rows identifier)
+-- What the table says of an identifier's data length; none where it has no row.
+abbrev pub lookup : List Row → ℕ → Option Size
+lookup [] identifier = None
+lookup (r ∷ rows) identifier = pick (eqb identifier r.identifier) (Some r.size) (lookup rows identifier)
 
-unfoldable pub size_of : ℕ → Size
+unfoldable pub size_of : ℕ → Option Size
 size_of identifier = lookup table identifier
 
 -- 01, Numbers: 6 "identifier not in the table".
-abbrev pub listed : Size → Bool
-listed (Exactly k) = true
-listed (AtLeast k) = true
-listed Unlisted = false
+abbrev pub listed : Option Size → Bool
+listed (Some size) = true
+listed None = false
 
 -- 01, Numbers: 7 "data length not as in the table".
-abbrev pub fits : Size → ℕ → Bool
-fits (Exactly k) n = eqb n k
-fits (AtLeast k) n = leb k n
-fits Unlisted n = false
+abbrev pub fits_size : Size → ℕ → Bool
+fits_size (Exactly k) n = eqb n k
+fits_size (AtLeast k) n = leb k n
+
+abbrev pub fits : Option Size → ℕ → Bool
+fits (Some size) n = fits_size size n
+fits None n = false
 
 -- The contract of `word`: the rule's number, which two bytes can hold.
 pub record Words (high low r : ℕ) : Type 0 where

@@ -1,110 +1,72 @@
 // Frames are written over the front of a lent buffer; what doesn't fit is refused and nothing is written.
-ghost use Rattle.std.specs.Prelude.{◌≤◌, length, ◌≡◌};
-ghost use Rattle.frame.specs.Ground.{over};
-ghost use Rattle.frame.specs.Build.{Answers, Builds, Lays, Sends, Wraps};
+ghost use Rattle.std.specs.Prelude.{◌≡◌, ◌+◌, ◌≤◌, IfOk};
+ghost use Rattle.frame.specs.Build.{Answers, Builds, Lays, Sends, Wraps, answered};
+ghost use Rattle.frame.specs.Given.{numbered};
+ghost use Rattle.frame.specs.Wire.{around, longest_data};
 
-use crate::given::{Given, plain};
-use crate::wire::{AROUND, DATA, HEAD, check, listed, size_of};
+use crate::given::Refusal;
+use crate::wire::{AROUND, DATA, HEAD, check, size_of};
 
-// What comes of writing a frame, or a strip.
-#[derive(Clone, Copy)]
-pub enum Built {
-    // Of a frame numbers 2, 4 and 6: the buffer is under data + 4, data is over 550, the identifier is not in the table.
-    // Of a strip numbers 10 and 2: the bytes are no content, the buffer is too short.
-    Refused(Given),
-    // The length of the frame, or of the strip.
-    Written(usize),
-}
-
-// Copies bytes over the front of a buffer that has room for them.
-fn copy(out: &mut [u8], bytes: &[u8])
-    requires { length bytes.now ≤ length out.old }
-    ensures { out.new ≡ over bytes.now out.old }
-{
-    let mut i = 0;
-    while i < bytes.len() {
-        out[i] = bytes[i];
-        i += 1;
-    }
-}
-
-// How many bytes are copied in a turn: a count that the compiler knows, through an array that overlaps nothing, so that it moves words.
-const TURN: usize = 16;
-
-fn copy_turn(out: &mut [u8], bytes: &[u8])
-    requires { (length bytes.now ≡ 16) × (16 ≤ length out.old) }
-    ensures { out.new ≡ over bytes.now out.old }
-{
-    let mut held = [0; TURN];
-    copy(&mut held, bytes);
-    copy(out, &held);
-}
-
-// Lays bytes over the front of a buffer, if they fit.
+// Lays bytes over the front of a buffer, if they fit. A function round a method, and a `bool`: so its contract `Lays` promises it to all callers.
 pub fn lay(out: &mut [u8], bytes: &[u8]) -> bool
     ensures { Lays out.old bytes.now result out.new }
 {
     if out.len() < bytes.len() {
         return false;
     }
-    let mut i = 0;
-    while i + TURN <= bytes.len() {
-        copy_turn(&mut out[i..], &bytes[i..i + TURN]);
-        i += TURN;
-    }
-    copy(&mut out[i..], &bytes[i..]);
+    out[..bytes.len()].copy_from_slice(bytes);
     true
 }
 
-// Writes the head and the check byte around n data bytes that stand in the buffer from place 3 on.
-pub fn wrap(out: &mut [u8], identifier: u8, n: usize) -> Built
-    ensures { Wraps out.old identifier n result out.new }
+// The length of the frame around n data bytes, if it may be written in so much room.
+#[tactic(auto, using(crate::proofs::Ground::tests), unfolding(crate::specs::Build::answered))]
+fn frame_length(room: usize, n: usize) -> Result<usize, Refusal>
+    ensures answer { numbered result ≡ answered room n }
+    ensures fits { IfOk result (λ length. (length ≡ n + around) × (length ≤ room) × (n ≤ longest_data)) }
 {
-    if out.len() < AROUND {
-        return Built::Refused(plain(2));
-    }
-    if out.len() - AROUND < n {
-        return Built::Refused(plain(2));
+    if room < AROUND || room - AROUND < n {
+        return Err(Refusal::ShortBuffer);
     }
     if DATA < n {
-        return Built::Refused(plain(4));
+        return Err(Refusal::TooLong);
     }
-    out[0] = identifier;
-    out[1] = (n / 256 % 256) as u8;
-    out[2] = (n % 256) as u8;
+    Ok(n + AROUND)
+}
+
+// Writes the head and the check byte around n data bytes that stand in the buffer from place 3 on, and gives the frame's length.
+pub fn wrap(out: &mut [u8], identifier: u8, n: usize) -> Result<usize, Refusal>
+    ensures { Wraps out.old identifier n (numbered result) out.new }
+{
+    let length = frame_length(out.len(), n)?;
+    let [.., high, low] = n.to_be_bytes();
+    out[..HEAD].copy_from_slice(&[identifier, high, low]);
     let c = check(&out[..n + HEAD]);
     out[n + HEAD] = c;
-    Built::Written(n + AROUND)
+    Ok(length)
 }
 
 // Writes a frame, if it fits and its identifier is known.
-fn send(out: &mut [u8], identifier: u8, bytes: &[u8], known: bool) -> Built
-    ensures { Sends out.old identifier bytes.now known result out.new }
+fn send(out: &mut [u8], identifier: u8, bytes: &[u8], known: bool) -> Result<usize, Refusal>
+    ensures { Sends out.old identifier bytes.now known (numbered result) out.new }
 {
-    let n = bytes.len();
-    if out.len() < n + AROUND {
-        return Built::Refused(plain(2));
-    }
-    if DATA < n {
-        return Built::Refused(plain(4));
-    }
+    frame_length(out.len(), bytes.len())?;
     if !known {
-        return Built::Refused(plain(6));
+        return Err(Refusal::UnknownIdentifier);
     }
     lay(&mut out[HEAD..], bytes);
-    wrap(out, identifier, n)
+    wrap(out, identifier, bytes.len())
 }
 
 // Writes a frame with any identifier: also one that stands only in answers, as 9Ch.
-pub fn answer(out: &mut [u8], identifier: u8, bytes: &[u8]) -> Built
-    ensures { Answers out.old identifier bytes.now result out.new }
+pub fn answer(out: &mut [u8], identifier: u8, bytes: &[u8]) -> Result<usize, Refusal>
+    ensures { Answers out.old identifier bytes.now (numbered result) out.new }
 {
     send(out, identifier, bytes, true)
 }
 
 // Writes a frame that the box can be sent.
-pub fn build(out: &mut [u8], identifier: u8, bytes: &[u8]) -> Built
-    ensures { Builds out.old identifier bytes.now result out.new }
+pub fn build(out: &mut [u8], identifier: u8, bytes: &[u8]) -> Result<usize, Refusal>
+    ensures { Builds out.old identifier bytes.now (numbered result) out.new }
 {
-    send(out, identifier, bytes, listed(size_of(identifier)))
+    send(out, identifier, bytes, size_of(identifier).is_some())
 }

@@ -2,13 +2,13 @@
 ghost use Rattle.std.specs.Prelude.{◌≡◌};
 ghost use Rattle.frame.specs.Holding.{is_held, is_holding, silenced};
 
-use crate::receive::update_size;
 use crate::wire::{DATA, HEAD, MARKS, UPDATE, word};
 
 // How many bytes the lent buffer has: as many as the longest update.
 pub const HOLDING: usize = UPDATE + MARKS;
 
-#[derive(Clone, Copy)]
+// No `Option`: that nothing is held because all is dropped until silence has a name.
+#[derive(Clone, Copy, Debug, PartialEq, Eq)]
 pub enum Holding {
     // So many bytes at the front of the lent buffer.
     Held(usize),
@@ -17,48 +17,33 @@ pub enum Holding {
 }
 
 // Whether some burst leaves these bytes.
+#[tactic(auto, using(crate::proofs::Ground::tests), unfolding(crate::specs::Holding::is_held))]
 fn is_held(s: &[u8]) -> bool
     ensures { result ≡ is_held s.now }
 {
-    if s.len() == 0 {
-        return true;
-    }
-    let first = s[0];
-    if first == 0x05 {
-        return false;
-    }
-    if first == 0x02 {
-        if UPDATE + 1 < s.len() {
-            return false;
+    match s {
+        [] => true,
+        [0x05, ..] => false,
+        [0x02, text @ ..] => s.len() <= UPDATE + 1 && !text.contains(&0x03),
+        [_, high, low, ..] => {
+            let n = word(*high, *low);
+            n <= DATA && s.len() <= n + HEAD
         }
-        return update_size(s) + 1 == s.len();
+        // Fewer bytes than tell the length.
+        _ => true,
     }
-    if s.len() < HEAD {
-        return true;
-    }
-    let n = word(s[1], s[2]);
-    if DATA < n {
-        return false;
-    }
-    s.len() <= n + HEAD
 }
 
 // Whether some burst leaves this holding.
+#[tactic(auto, using(crate::proofs::Ground::tests), unfolding(crate::specs::Holding::is_holding))]
 pub fn is_holding(holding: Holding, buffer: &[u8]) -> bool
     ensures { result ≡ is_holding holding buffer.now }
 {
-    if buffer.len() != HOLDING {
-        return false;
-    }
-    match holding {
-        Holding::Held(n) => {
-            if HOLDING <= n {
-                return false;
-            }
-            is_held(&buffer[..n])
+    buffer.len() == HOLDING
+        && match holding {
+            Holding::Held(n) => n < HOLDING && is_held(&buffer[..n]),
+            Holding::Dropping => true,
         }
-        Holding::Dropping => true,
-    }
 }
 
 impl Holding {

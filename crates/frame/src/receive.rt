@@ -1,9 +1,10 @@
 // What was received: nothing is copied, an answer says where the data lies.
-ghost use Rattle.std.specs.Prelude.{◌≤◌, length, ◌≡◌};
+ghost use Rattle.std.specs.Prelude.{◌≤◌, ◌==◌, ◌≡◌, IfSome, position};
 ghost use Rattle.frame.specs.Receive.{Receives, data_length, framed, judged, run, text_space, updated};
-ghost use Rattle.frame.specs.Wire.{longest_data, update_closes};
+ghost use Rattle.frame.specs.Wire.{longest_data, longest_update, update_closes};
 
-use crate::wire::{AROUND, DATA, HEAD, MARKS, UPDATE, check, fits, listed, size_of, word};
+use crate::given::Refusal;
+use crate::wire::{AROUND, DATA, HEAD, MARKS, UPDATE, check, size_of, word};
 
 // How many bytes behind the 02h the 03h must stand among.
 const TEXT: usize = UPDATE + 1;
@@ -11,15 +12,16 @@ const TEXT: usize = UPDATE + 1;
 // How many bytes the longest update has: 1,024.
 const WHOLE: usize = UPDATE + MARKS;
 
-#[derive(Clone, Copy)]
+// Sizes, and no slices: the rule `received` and the laws over it (`ReadsBack`, `HasEffect`) speak of numbers.
+#[derive(Clone, Copy, Debug, PartialEq, Eq)]
 pub enum Received {
     // Not whole yet: number 3, nothing is consumed.
     Partial,
     // A 05h.
     Enquiry,
-    // Numbers 4 and 5.
+    // Too long, or a wrong check byte.
     Refused {
-        number: u8,
+        why: Refusal,
         consumed: usize,
     },
     // A field update: size characters from place 1 on.
@@ -27,9 +29,9 @@ pub enum Received {
         size: usize,
         consumed: usize,
     },
-    // Numbers 6 and 7: the check byte is right, so identifier and data are read; size data bytes from place 3 on.
+    // An unknown identifier, or a wrong length: the check byte is right, so identifier and data are read; size data bytes from place 3 on.
     Misfit {
-        number: u8,
+        why: Refusal,
         identifier: u8,
         size: usize,
         consumed: usize,
@@ -42,94 +44,70 @@ pub enum Received {
     },
 }
 
-// How many bytes behind the 02h there are for the 03h to stand among.
-fn text_size(s: &[u8]) -> usize
-    ensures { result ≡ length (text_space s.now) }
+// How many bytes stand between the 02h and the first 03h, if one stands among those that count.
+fn update_size(s: &[u8]) -> Option<usize>
+    ensures first { result ≡ position (λ b. b == update_closes) (text_space s.now) }
+    ensures short { IfSome result (λ n. n ≤ longest_update) }
 {
-    if s.len() == 0 {
-        return 0;
-    }
-    if s.len() <= TEXT {
-        return s.len() - 1;
-    }
-    TEXT
+    s.iter().skip(1).take(TEXT).position(|b| *b == 0x03)
 }
 
-// How many bytes stand between the 02h and the first 03h that counts. One end for the loop, known before it: a test less for each byte.
-pub(crate) fn update_size(s: &[u8]) -> usize
-    ensures { result ≡ run update_closes (text_space s.now) }
-{
-    let end = text_size(s);
-    let mut n = 0;
-    while n < end {
-        if s[n + 1] == 0x03 {
-            return n;
-        }
-        n += 1;
-    }
-    n
-}
-
+#[tactic(auto, using(crate::proofs::Folds::ended, crate::proofs::Ground::tests))]
 fn receive_update(s: &[u8]) -> Received
     ensures { result ≡ updated s.now (run update_closes (text_space s.now)) }
 {
-    let n = update_size(s);
-    if n < TEXT {
-        if n + 1 < s.len() {
-            return Received::Update {
-                size: n,
-                consumed: n + MARKS,
-            };
-        }
+    if let Some(size) = update_size(s) {
+        return Received::Update {
+            size,
+            consumed: size + MARKS,
+        };
     }
     if s.len() < WHOLE {
         return Received::Partial;
     }
     Received::Refused {
-        number: 4,
+        why: Refusal::TooLong,
         consumed: s.len(),
     }
 }
 
 // A frame whose check byte is right, held to the table.
-fn judge(identifier: u8, n: usize) -> Received
-    requires { n ≤ longest_data }
-    ensures { result ≡ judged identifier n }
+#[tactic(auto, using(crate::proofs::Ground::tests), unfolding(crate::specs::Receive::judged))]
+fn judge(identifier: u8, size: usize) -> Received
+    requires { size ≤ longest_data }
+    ensures { result ≡ judged identifier size }
 {
-    let size = size_of(identifier);
-    if !listed(size) {
-        return Received::Misfit {
-            number: 6,
-            identifier,
-            size: n,
-            consumed: n + AROUND,
-        };
-    }
-    if !fits(size, n) {
-        return Received::Misfit {
-            number: 7,
-            identifier,
-            size: n,
-            consumed: n + AROUND,
-        };
-    }
-    Received::Frame {
+    let consumed = size + AROUND;
+    let why = match size_of(identifier) {
+        None => Refusal::UnknownIdentifier,
+        Some(asked) if !asked.fits(size) => Refusal::WrongLength,
+        Some(_) => {
+            return Received::Frame {
+                identifier,
+                size,
+                consumed,
+            };
+        }
+    };
+    Received::Misfit {
+        why,
         identifier,
-        size: n,
-        consumed: n + AROUND,
+        size,
+        consumed,
     }
 }
 
+#[tactic(auto, using(crate::proofs::Ground::tests), unfolding(crate::specs::Receive::framed))]
 fn receive_frame(s: &[u8]) -> Received
     ensures { result ≡ framed s.now (data_length s.now) }
 {
-    if s.len() < HEAD {
+    let [identifier, high, low, ..] = *s else {
         return Received::Partial;
-    }
-    let n = word(s[1], s[2]);
+    };
+    let n = word(high, low);
     if DATA < n {
         return Received::Refused {
-            number: 4,
+            why: Refusal::TooLong,
             consumed: s.len(),
         };
     }
@@ -138,26 +116,22 @@ fn receive_frame(s: &[u8]) -> Received
     }
     if check(&s[..n + HEAD]) != s[n + HEAD] {
         return Received::Refused {
-            number: 5,
+            why: Refusal::WrongCheck,
             consumed: n + AROUND,
         };
     }
-    judge(s[0], n)
+    judge(identifier, n)
 }
 
 // Sorts what was handed in since the last byte consumed; any bytes, also none.
+#[tactic(auto, using(crate::proofs::Ground::tests), unfolding(crate::specs::Receive::received))]
 pub fn receive(s: &[u8]) -> Received
     ensures { Receives s.now result }
 {
-    if s.len() == 0 {
-        return Received::Partial;
+    match s {
+        [] => Received::Partial,
+        [0x05, ..] => Received::Enquiry,
+        [0x02, ..] => receive_update(s),
+        _ => receive_frame(s),
     }
-    let first = s[0];
-    if first == 0x05 {
-        return Received::Enquiry;
-    }
-    if first == 0x02 {
-        return receive_update(s);
-    }
-    receive_frame(s)
 }

@@ -1,9 +1,8 @@
--- The proofs of `library`. What the functions' proofs share: records in bytes, a walk over them with `record_at`, rows of records, and
--- bytes that are moved.
+-- The proofs of `library`. What the functions' proofs share: records in bytes, a walk over them with `record_at`, and
+-- rows of records.
 pub mod Records
 pub mod Walks
 pub mod Stores
-pub mod Moves
 -- The laws, each file those of the statements of the same name; the samples.
 pub mod StoreLaws
 pub mod NumberLaws

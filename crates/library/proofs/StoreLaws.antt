@@ -8,6 +8,8 @@ use native.Mathlib.Omega.{arith}
 use borrow.Author.Tests.{eq-eqb, eqb-true, le-leb, leb-true, lt-leb}
 use lib.Dec.{eqb}
 use lib.ListN.{length, replicate, length-append, length-replicate}
+use Rattle.frame.specs.Ground.{plain}
+use Rattle.frame.specs.declared.given.Given.{Given}
 use Rattle.frame.proofs.Ground.{both_true, true_both}
 use Rattle.library.specs.Record.{Record, records, rest, written}
 use Rattle.library.specs.Store.{Keeps, blank, body_of, fit, has_room, held, is_store, kept, store_bytes, store_size, stored}
@@ -93,12 +95,12 @@ storing_stores s n body e i r =
     }
 
 -- What `keep` says and leaves of bytes of a store's size, by whether there is room.
-module _ (s : List ℕ) (n : ℕ) (body : List ℕ) (r : ℕ) (s' : List ℕ) (k : Keeps s n body r s') (full : length s ≡ store_size) where
-  pub keep_done : has_room n body s ≡ true → (r ≡ 0) × (s' ≡ stored n body s)
-  keep_done e = let p = eq-eqb (length s) store_size full in (k.number ∙ rw (p, e), k.store ∙ rw (p, e))
+module _ (s : List ℕ) (n : ℕ) (body : List ℕ) (r : Given) (s' : List ℕ) (k : Keeps s n body r s') (full : length s ≡ store_size) where
+  pub keep_done : has_room n body s ≡ true → (r ≡ plain 0) × (s' ≡ stored n body s)
+  keep_done e = let p = eq-eqb (length s) store_size full in (k.gives ∙ rw (p, e), k.store ∙ rw (p, e))
 
-  pub keep_full : has_room n body s ≡ false → (r ≡ 16) × (s' ≡ s)
-  keep_full e = let p = eq-eqb (length s) store_size full in (k.number ∙ rw (p, e), k.store ∙ rw (p, e))
+  pub keep_full : has_room n body s ≡ false → (r ≡ plain 16) × (s' ≡ s)
+  keep_full e = let p = eq-eqb (length s) store_size full in (k.gives ∙ rw (p, e), k.store ∙ rw (p, e))
 
 pub keep_stores : KeepStores
 unfolding has_room

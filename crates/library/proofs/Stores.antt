@@ -5,6 +5,9 @@ use mathlib.Core.List.{List, [], ◌∷◌, ◌++◌, append_assoc, append-nil}
 use mathlib.Core.Path.{◌≡◌, refl, sym, ◌∙◌, ap, ap₂}
 use native.Mathlib.Nat.{not-suc-le-zero, le_of_suc-le-suc}
 use native.Mathlib.Omega.{arith}
+use Rattle.std.specs.Int.Bits.{bit_or, or_zero_l}
+use Rattle.std.specs.List.{fold}
+use Rattle.std.proofs.lemmas.Nat.{le_or_l}
 use borrow.Author.Tests.{eq-eqb, ne_eqb, eqb-true, eqb-false, not-true}
 use lib.Dec.{eqb}
 use lib.ListN.{length, replicate, length-append}
@@ -18,7 +21,11 @@ use Rattle.library.proofs.Records.{by_test}
 abbrev pub new : ℕ → List ℕ → Record
 new n body = record { number = n; body = body }
 
-pub both_assoc : (x y z : Bool) → both x (both y z) ≡ both (both x y) z
+both_true_r : (x : Bool) → x ≡ both x true
+both_true_r true = refl
+both_true_r false = refl
+
+both_assoc : (x y z : Bool) → both x (both y z) ≡ both (both x y) z
 both_assoc true y z = refl
 both_assoc false y z = refl
 
@@ -45,9 +52,17 @@ pub zeros_blank : (n : ℕ) → blank (replicate n 0) ≡ true
 zeros_blank zero = refl
 zeros_blank (suc n) = zeros_blank n
 
-pub blank_append : (s t : List ℕ) → blank (s ++ t) ≡ both (blank s) (blank t)
-blank_append [] t = refl
-blank_append (b ∷ s) t = rw (blank_append s t) (both_assoc (eqb b 0) (blank s) (blank t))
+-- Bytes are 00h where no bit of any is set.
+or_none : (a b : ℕ) → eqb (bit_or a b) 0 ≡ both (eqb a 0) (eqb b 0)
+or_none zero b = ap (λ (k : ℕ). eqb k 0) (or_zero_l b)
+or_none (suc a) b = rw (ne_eqb (suc a) 0 (λ e. omega arith)) (ne_eqb (bit_or (suc a) b) 0 (λ e. omega (arith, le_or_l (suc a) b)))
+
+any_from : (a : ℕ) (s : List ℕ) → eqb (fold bit_or a s) 0 ≡ both (eqb a 0) (blank s)
+any_from a [] = both_true_r (eqb a 0)
+any_from a (b ∷ s) = any_from (bit_or a b) s ∙ rw (or_none a b) (sym (both_assoc (eqb a 0) (eqb b 0) (blank s)))
+
+pub any_blank : (s : List ℕ) → eqb (fold bit_or 0 s) 0 ≡ blank s
+any_blank s = any_from 0 s
 
 -- ---- A number that is among some, or not.
 pub has_split : (n x : ℕ) (xs : List ℕ) → has n (x ∷ xs) ≡ false → (eqb x n ≡ false) × (has n xs ≡ false)

@@ -15,4 +15,4 @@ pub body_unique : BodyUnique
 body_unique s n r r' p q = p ∙ sym q
 
 pub keep_unique : KeepUnique
-keep_unique s n body r r' after after' p q = (p.number ∙ sym q.number, p.store ∙ sym q.store)
+keep_unique s n body r r' after after' p q = (p.gives ∙ sym q.gives, p.store ∙ sym q.store)

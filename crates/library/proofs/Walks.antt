@@ -1,23 +1,21 @@
 -- A walk over the records of a store by `record_at`: what is known where it found a record, and where it found none. A loop keeps what the
 -- records from its place on give, `at ≤ length s` and `f (records s) ≡ f (records (drop at s))`, and passes one record at each turn; what is
--- left of the length falls. In a function's proof, where `step` is what `record_at` gave, `walked s at (.. .record-at .ensures) (.. .step
--- .given .1)` tells of the record, whose number is `.. .step .given .0 .0` and whose end is `.. .step .given .0 .1 .0`.
+-- left of the length falls.
 use Prim.Native.Nat.{ℕ, ◌+◌, ◌-◌, ◌≤◌, ◌<◌}
 use mathlib.Core.Bool.{true}
 use mathlib.Core.List.{List, [], ◌∷◌}
+use Rattle.std.proofs.Common.{Option, Some, None}
 use mathlib.Core.Path.{◌≡◌, sym, ◌∙◌, ap, ap₂}
-use native.Mathlib.Nat.{add-zero}
 use native.Mathlib.Omega.{arith}
 use borrow.Author.Tests.{eq-eqb, ne_eqb}
-use lib.ListN.{length, get_or, take, drop, length-drop}
-use lib.Seq.{drop-drop, get_or-drop, length-take-le}
+use lib.ListN.{length, get_or, take, drop, length-append, length-drop}
+use lib.Seq.{drop-drop, length-take-le}
 use Rattle.frame.specs.Ground.{pick}
 use Rattle.frame.specs.Wire.{word}
-use Rattle.library.specs.Record.{Record, begins, body_size, head_size, record_bytes, record_size, records, rest, step_at}
+use Rattle.library.specs.Record.{Record, begins, body_size, head_size, record_bytes, record_size, records, rest, step_at, written}
 use Rattle.library.specs.Store.{body_of, without}
 use Rattle.library.specs.StoreLaws.{AllBytes}
-use Rattle.library.specs.declared.record.Step.{Step}
-use Rattle.library.specs.declared.record.Step.TheVariants.{Read, Ends}
+use Rattle.library.specs.declared.record.Found.{Found}
 use Rattle.library.proofs.Records.{Begins, begins_tells, by_test, bytes_drop, front_bytes, none_left, not_begins, tells_begins, turned}
 
 -- The record that lies from a place of a store up to its end.
@@ -68,29 +66,33 @@ here s at e =
     behind_place : (at k : ℕ) → k ≡ at + k - at
     behind_place at k = omega arith
 
-pub walked : (s : List ℕ) (at : ℕ) {r : Step} {n end : ℕ} → r ≡ step_at s at → r ≡ Read n end → Walked s at n end
-walked s at {r} {n} {end} p q =
+pub walked : (s : List ℕ) (at : ℕ) {f : Found} → Some f ≡ step_at s at → Walked s at f.number f.end
+walked s at {f} p =
     by_test (begins (drop at s))
     (λ e.
-    let there : Read n end ≡ Read (get_or (drop at s) 2 0) (at + record_size (drop at s)) = sym q ∙ p ∙ rw e in
-    let same : n ≡ get_or (drop at s) 2 0 = cc in
-    let ends : end ≡ at + record_size (drop at s) = cc in
-    rw (same, ends) (here s at e))
-    (λ e. let none : Read n end ≡ Ends = sym q ∙ p ∙ rw e in let z : ◌≡◌ {A = ℕ} 0 1 = cc in absurd (omega arith))
+    let there : Some f ≡ Some (record { number = get_or (drop at s) 2 0; end = at + record_size (drop at s) }) = p ∙ rw e in
+    let same : f ≡ record { number = get_or (drop at s) 2 0; end = at + record_size (drop at s) } = cc in
+    rw same (here s at e))
+    (λ e. let none : Some f ≡ None = p ∙ rw e in (cc))
 
-pub ended : (s : List ℕ) (at : ℕ) {r : Step} → r ≡ step_at s at → r ≡ Ends → Ended s at
-ended s at {r} p q =
+-- In numbers: a record goes on behind its head, and ends inside.
+pub ahead : (s : List ℕ) (at : ℕ) (f : Found) → Some f ≡ step_at s at → at + head_size ≤ f.end
+ahead s at f p = (walked s at p).ahead
+
+pub inside : (s : List ℕ) (at : ℕ) (f : Found) → Some f ≡ step_at s at → f.end ≤ length s
+inside s at f p = (walked s at p).inside
+
+pub ended : (s : List ℕ) (at : ℕ) → None ≡ step_at s at → Ended s at
+ended s at p =
     by_test (begins (drop at s))
-    (λ e.
-    let some : Ends ≡ Read (get_or (drop at s) 2 0) (at + record_size (drop at s)) = sym q ∙ p ∙ rw e in
-    let z : ◌≡◌ {A = ℕ} 0 1 = cc in
-    absurd (omega arith))
+    (λ e. let some : None ≡ Some (record { number = get_or (drop at s) 2 0; end = at + record_size (drop at s) }) = p ∙ rw e in (cc))
     (λ e. let none = none_left (drop at s) e in record { none = none.0; left = none.1 })
 
 -- Bytes that are the same from a place on have the same standing there.
-pub same_step : (s t : List ℕ) (at : ℕ) {r : Step} → drop at s ≡ drop at t → r ≡ step_at s at → r ≡ step_at t at
+pub same_step : (s t : List ℕ) (at : ℕ) {r : Option Found} → drop at s ≡ drop at t → r ≡ step_at s at → r ≡ step_at t at
 same_step s t at e p =
-    p ∙ ap (λ (l : List ℕ). pick (begins l) (Read (get_or l 2 0) (at + record_size l)) Ends) e
+    p
+    ∙ ap (λ (l : List ℕ). pick (begins l) (Some (record { number = get_or l 2 0; end = at + record_size l })) None) e
 
 pub body_length : {s : List ℕ} {at n end : ℕ} → Walked s at n end → length (body_at s at end) ≡ end - (at + head_size)
 body_length {s} {at} {n} {end} w = length-take-le (end - (at + head_size)) (drop (at + head_size) s) (simp length-drop (omega (arith, w.inside)))
@@ -99,45 +101,58 @@ pub found_length : {s : List ℕ} {at n end : ℕ} → Walked s at n end → len
 found_length w = omega (arith, body_length w, w.ahead)
 
 -- ---- What a turn makes of the rules: a body that is looked for, and the records of all other numbers.
+pub body_here : (s : List ℕ) (at : ℕ) (f : Found) (n : ℕ) → Some f ≡ step_at s at → f.number ≡ n → body_of n (records (drop at s)) ≡ body_at s at f.end
+body_here s at f n p e = ap (body_of n) (walked s at p).first ∙ rw (eq-eqb f.number n e)
+
+pub body_past : (s : List ℕ) (at : ℕ) (f : Found) (n : ℕ) → Some f ≡ step_at s at → (f.number ≡ n → ⊥)
+    → body_of n (records (drop at s)) ≡ body_of n (records (drop f.end s))
+body_past s at f n p e = ap (body_of n) (walked s at p).first ∙ rw (ne_eqb f.number n e)
+
+pub body_none : (s : List ℕ) (at n : ℕ) → None ≡ step_at s at → body_of n (records (drop at s)) ≡ []
+body_none s at n p = ap (body_of n) (ended s at p).none
+
 module _ {s : List ℕ} {at m end : ℕ} (n : ℕ) where
-  pub body_here : Walked s at m end → m ≡ n → body_of n (records (drop at s)) ≡ body_at s at end
-  body_here w e = ap (body_of n) w.first ∙ rw (eq-eqb m n e)
-
-  pub body_past : Walked s at m end → (m ≡ n → ⊥) → body_of n (records (drop at s)) ≡ body_of n (records (drop end s))
-  body_past w e = ap (body_of n) w.first ∙ rw (ne_eqb m n e)
-
   pub others_here : Walked s at m end → m ≡ n → without n (records (drop at s)) ≡ without n (records (drop end s))
   others_here w e = ap (without n) w.first ∙ rw (eq-eqb m n e)
 
   pub others_past : Walked s at m end → (m ≡ n → ⊥) → without n (records (drop at s)) ≡ found s at m end ∷ without n (records (drop end s))
   others_past w e = ap (without n) w.first ∙ rw (ne_eqb m n e)
 
--- ---- The tests of `record_at`.
+-- How many bytes the records from a place on take that are of other numbers.
+abbrev pub left : ℕ → List ℕ → ℕ → ℕ
+left n s at = length (written (without n (records (drop at s))))
+
+pub left_here : (s : List ℕ) (at : ℕ) (f : Found) (n : ℕ) → Some f ≡ step_at s at → f.number ≡ n → left n s at ≡ left n s f.end
+left_here s at f n p e = ap (λ (rs : List Record). length (written rs)) (others_here n (walked s at p) e)
+
+pub left_past : (s : List ℕ) (at : ℕ) (f : Found) (n : ℕ) → Some f ≡ step_at s at → (f.number ≡ n → ⊥) → left n s at ≡ f.end - at + left n s f.end
+left_past s at f n p e =
+    ap (λ (rs : List Record). length (written rs)) (others_past n (walked s at p) e)
+    ∙ length-append (record_bytes (found s at f.number f.end)) (written (without n (records (drop f.end s))))
+    ∙ ap (λ (k : ℕ). k + left n s f.end) (found_length (walked s at p))
+
+pub left_none : (s : List ℕ) (at n : ℕ) → None ≡ step_at s at → left n s at ≡ 0
+left_none s at n p = ap (λ (rs : List Record). length (written (without n rs))) (ended s at p).none
+
+-- ---- The tests of `record_at`, on the bytes from its place on.
 module _ (s : List ℕ) (at : ℕ) where
-  at_place : (k : ℕ) → get_or (drop at s) k 0 ≡ get_or s (at + k) 0
-  at_place k = get_or-drop at s k 0
-
-  at_first : get_or (drop at s) 0 0 ≡ get_or s at 0
-  at_first = at_place 0 ∙ ap (λ (k : ℕ). get_or s k 0) (add-zero at)
-
-  ends : (Begins (drop at s) → ⊥) → Ends ≡ step_at s at
+  ends : (Begins (drop at s) → ⊥) → None ≡ step_at s at
   ends n = rw (not_begins (drop at s) n)
 
-  pub ends_short : length s < at + head_size → Ends ≡ step_at s at
+  pub ends_short : length s < at + head_size → None ≡ step_at s at
   ends_short h = ends (λ b. omega (arith, b.inside, length-drop at s))
 
-  pub ends_mark : (get_or s at 0 ≡ 0x4C → ⊥) → Ends ≡ step_at s at
-  ends_mark n = ends (λ b. n (sym at_first ∙ b.mark))
+  pub ends_mark : (get_or (drop at s) 0 0 ≡ 0x4C → ⊥) → None ≡ step_at s at
+  ends_mark n = ends (λ b. n b.mark)
 
-  pub ends_second : (get_or s (at + 1) 0 ≡ 0x52 → ⊥) → Ends ≡ step_at s at
-  ends_second n = ends (λ b. n (sym (at_place 1) ∙ b.second))
+  pub ends_second : (get_or (drop at s) 1 0 ≡ 0x52 → ⊥) → None ≡ step_at s at
+  ends_second n = ends (λ b. n b.second)
 
-  pub ends_long : (k : ℕ) → k ≡ word (get_or s (at + 3) 0) (get_or s (at + 4) 0) → length s < at + head_size + k → Ends ≡ step_at s at
-  ends_long k e h = ends (λ b. omega (arith, b.inside, length-drop at s, at_place 3, at_place 4))
+  pub ends_long : length s < at + (head_size + word (get_or (drop at s) 3 0) (get_or (drop at s) 4 0)) → None ≡ step_at s at
+  ends_long h = ends (λ b. omega (arith, b.inside, length-drop at s))
 
-  pub reads : (k : ℕ) → k ≡ word (get_or s (at + 3) 0) (get_or s (at + 4) 0) → get_or s at 0 ≡ 0x4C → get_or s (at + 1) 0 ≡ 0x52
-      → at + head_size + k ≤ length s → Read (get_or s (at + 2) 0) (at + head_size + k) ≡ step_at s at
-  reads k e p q h =
-      rw (tells_begins (drop at s)
-      record { mark = at_first ∙ p; second = at_place 1 ∙ q; inside = omega (arith, length-drop at s, at_place 3, at_place 4) })
-      (ap₂ (λ (n end : ℕ). Read n end) (sym (at_place 2)) (omega (arith, at_place 3, at_place 4)))
+  pub reads : (t : List ℕ) (k : ℕ) → t ≡ drop at s → k ≡ word (get_or t 3 0) (get_or t 4 0) → get_or t 0 0 ≡ 0x4C → get_or t 1 0 ≡ 0x52
+      → head_size + k ≤ length t → Some (record { number = get_or t 2 0; end = at + head_size + k }) ≡ step_at s at
+  reads t k from e p q h =
+      rw (sym from, tells_begins t record { mark = p; second = q; inside = omega arith })
+      (ap (λ (end : ℕ). Some (record { number = get_or t 2 0; end = end })) (omega arith))

@@ -1,6 +1,6 @@
 -- The tests of `keep` stand in the order of the numbers, so that of those that apply the first is given.
 use Rattle.std.specs.Prelude.{ℕ, true, List, ◌≡◌}
-use Rattle.frame.specs.Ground.{plain}
+use Rattle.frame.specs.declared.given.Given.{Given}
 use Rattle.frame.specs.Numbers.{FirstGiven, in_order}
 use Rattle.library.specs.Store.{Keeps, keep_tests}
 
@@ -10,6 +10,6 @@ InOrder = (n : ℕ) (body s : List ℕ) → in_order (keep_tests n body s) ≡ t
 
 abbrev pub KeepGivesFirst : Type 0
 KeepGivesFirst =
-    (s : List ℕ) (n : ℕ) (body : List ℕ) (r : ℕ) (s' : List ℕ) →
+    (s : List ℕ) (n : ℕ) (body : List ℕ) (r : Given) (s' : List ℕ) →
     Keeps s n body r s' →
-    FirstGiven (keep_tests n body s) (plain r)
+    FirstGiven (keep_tests n body s) r

@@ -1,9 +1,8 @@
 -- A record of the message library: its bytes, and how records are read from bytes.
-use Rattle.std.specs.Prelude.{ℕ, zero, suc, ◌+◌, Bool, List, [], ◌∷◌, ◌++◌, eqb, leb, length, get_or, take, drop}
+use Rattle.std.specs.Prelude.{ℕ, zero, suc, ◌+◌, Bool, Option, None, Some, List, [], ◌∷◌, ◌++◌, eqb, leb, length, get_or, take, drop}
 use Rattle.frame.specs.Ground.{pick, both}
 use Rattle.frame.specs.Wire.{word, high, low}
-use Rattle.library.specs.declared.record.Step.{Step}
-use Rattle.library.specs.declared.record.Step.TheVariants.{Read, Ends}
+use Rattle.library.specs.declared.record.Found.{Found}
 
 pub record Record : Type 0 where
   pub number : ℕ
@@ -55,5 +54,6 @@ unfoldable pub rest : List ℕ → List ℕ
 rest s = rest_in (length s) s
 
 -- The contract of `record_at`: what stands at a place, a record with its number and its end, or none.
-abbrev pub step_at : List ℕ → ℕ → Step
-step_at s at = pick (begins (drop at s)) (Read (get_or (drop at s) 2 0) (at + record_size (drop at s))) Ends
+abbrev pub step_at : List ℕ → ℕ → Option Found
+step_at s at =
+    pick (begins (drop at s)) (Some (record { number = get_or (drop at s) 2 0; end = at + record_size (drop at s) })) None

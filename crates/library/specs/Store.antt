@@ -1,6 +1,7 @@
 -- The store: what makes bytes a well-formed one, what it holds of a number, and what storing makes of it.
-use Rattle.std.specs.Prelude.{ℕ, ◌+◌, ◌-◌, Bool, true, false, not, List, [], ◌∷◌, ◌++◌, ◌≡◌, eqb, leb, length, take, drop, replicate}
-use Rattle.frame.specs.Ground.{pick, both, within, has, Test, test, all, first_failing}
+use Rattle.std.specs.Prelude.{ℕ, ◌+◌, ◌-◌, Bool, true, false, not, List, [], ◌∷◌, ◌++◌, ◌≡◌, eqb, leb, length, take, replicate}
+use Rattle.frame.specs.Ground.{pick, both, within, has, Test, test, all, given}
+use Rattle.frame.specs.declared.given.Given.{Given}
 use Rattle.library.specs.Record.{Record, head_size, record_bytes, written, records, rest}
 
 -- 02, Wish 1: "Records live in a lent store of 8,192 bytes".
@@ -62,13 +63,9 @@ has_room n body s = leb (length (written (kept n body (records s)))) store_size
 abbrev pub keep_tests : ℕ → List ℕ → List ℕ → List Test
 keep_tests n body s = test (eqb (length s) store_size) 1 ∷ test (has_room n body s) 16 ∷ []
 
-pub record Keeps (s : List ℕ) (n : ℕ) (body : List ℕ) (r : ℕ) (s' : List ℕ) : Type 0 where
-  pub number : r ≡ first_failing (keep_tests n body s)
+pub record Keeps (s : List ℕ) (n : ℕ) (body : List ℕ) (r : Given) (s' : List ℕ) : Type 0 where
+  pub gives : r ≡ given (keep_tests n body s)
   pub store : s' ≡ pick (all (keep_tests n body s)) (stored n body s) s
-
--- Bytes moved down: those from a place on, so many, to a lower place; all others stay.
-abbrev pub moved : List ℕ → ℕ → ℕ → ℕ → List ℕ
-moved s from count to = (take to s ++ take count (drop from s)) ++ drop (to + count) s
 
 -- What `close` and `put_last` make of a store on the way: the other records lie at the front, with whatever bytes behind them; then the
 -- new one is the last, and 00h stands behind it.

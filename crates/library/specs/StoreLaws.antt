@@ -1,7 +1,8 @@
 -- What is true of stores: a well-formed one is its records written one behind the other, with 00h behind the last, and it can be read in
 -- no other way; storing puts the new record last, leaves all others byte for byte, and leaves the store well formed.
 use Rattle.std.specs.Prelude.{ℕ, ◌-◌, ◌<◌, ◌≤◌, true, List, [], ◌++◌, ◌≡◌, length, get_or, replicate}
-use Rattle.frame.specs.Ground.{within}
+use Rattle.frame.specs.Ground.{plain, within}
+use Rattle.frame.specs.declared.given.Given.{Given}
 use Rattle.library.specs.Record.{Record, written, records}
 use Rattle.library.specs.Store.{Keeps, is_number, is_store, held, body_of, kept, stored, has_room}
 
@@ -47,10 +48,10 @@ StoringStores =
 -- room, and else gives 16 and leaves every byte as it was.
 abbrev pub KeepStores : Type 0
 KeepStores =
-    (s : List ℕ) (n : ℕ) (body : List ℕ) (r : ℕ) (s' : List ℕ) →
+    (s : List ℕ) (n : ℕ) (body : List ℕ) (r : Given) (s' : List ℕ) →
     Keeps s n body r s' → is_store s ≡ true → is_number n ≡ true →
-    (length (written (kept n body (records s))) ≤ 8192 → (r ≡ 0) × Stores s n body s')
-    × (8192 < length (written (kept n body (records s))) → (r ≡ 16) × (s' ≡ s))
+    (length (written (kept n body (records s))) ≤ 8192 → (r ≡ plain 0) × Stores s n body s')
+    × (8192 < length (written (kept n body (records s))) → (r ≡ plain 16) × (s' ≡ s))
 
 -- A store without records is 8,192 times 00h.
 abbrev pub BlankStore : Type 0

@@ -1,12 +1,12 @@
 -- Every contract has one outcome: two that meet it for the same inputs have the same answer and the same bytes after.
-use Rattle.std.specs.Prelude.{ℕ, Bool, List, ◌≡◌}
+use Rattle.std.specs.Prelude.{ℕ, Bool, Option, List, ◌≡◌}
 use Rattle.frame.specs.Ground.{OneAnswer, OneOutcome}
 use Rattle.library.specs.Record.{records, step_at}
 use Rattle.library.specs.Store.{Keeps, body_of, is_number, is_store}
-use Rattle.library.specs.declared.record.Step.{Step}
+use Rattle.library.specs.declared.record.Found.{Found}
 
 abbrev pub RecordAtUnique : Type 0
-RecordAtUnique = (s : List ℕ) (at : ℕ) → OneAnswer (λ (r : Step). r ≡ step_at s at)
+RecordAtUnique = (s : List ℕ) (at : ℕ) → OneAnswer (λ (r : Option Found). r ≡ step_at s at)
 
 abbrev pub IsNumberUnique : Type 0
 IsNumberUnique = (n : ℕ) → OneAnswer (λ (r : Bool). r ≡ is_number n)

@@ -1,24 +1,21 @@
 -- What the functions' proofs cite: one more byte in hex, a number's digits one by one, and a line written piece by piece over the front of a buffer.
 use Prim.Native.Nat.{ℕ, zero, suc, ◌+◌, ◌*◌, ◌-◌, ◌/◌, ◌%◌, ◌^◌, ◌≤◌, ◌<◌}
-use mathlib.Core.List.{List, [], ◌∷◌, ◌++◌, append_assoc, append-nil}
+use mathlib.Core.List.{List, [], ◌∷◌, ◌++◌, append_assoc}
 use mathlib.Core.Path.{◌≡◌, refl, sym, ◌∙◌, ap}
+use Rattle.std.proofs.Common.{Option, Some, None}
 use native.Mathlib.Nat.{not-suc-le-zero, le_of_suc-le-suc, pow-suc}
 use native.Mathlib.Numerals.{add-one}
 use native.Mathlib.Omega.{arith}
 use borrow.Author.Tests.{le-ltb, lt-ltb, ltb-true, ltb-false}
 use borrow.Rule.Slice.PartMut.{mid_of, put_mid}
 use lib.Dec.{ltb}
-use lib.ListN.{length, get_or, take, drop, set, length-set, length-append, take-append-drop}
+use lib.ListN.{length, get_or, take, drop, set, length-append}
 use lib.Seq.{length-take-le, take-suc, append_snoc, set_at}
 use Rattle.frame.specs.Ground.{over}
 use Rattle.frame.specs.declared.given.Given.{Given}
-use Rattle.frame.specs.declared.given.Where.{Where}
-use Rattle.frame.specs.declared.given.Where.TheVariants.{Nowhere, At}
 use Rattle.frame.proofs.Ground.{pick_case, over_next}
 use Rattle.frame.proofs.Lent.{Laid, laid_more}
 use Rattle.line.specs.Line.{space, newline, colon, decimal_in, decimal, hex_digit, hex, place_text, given_text, line, lined, bytes_of, line_length, longest_given, Writes}
-use Rattle.line.specs.declared.Lined.{Lined}
-use Rattle.line.specs.declared.Lined.TheVariants.{Short, Written}
 
 -- ---- Hex: two digits a byte.
 pub length_hex : (s : List ℕ) → length (hex s) ≡ 2 * length s
@@ -96,9 +93,6 @@ one_width n h = ap length (one_digit n h)
 pub more_width : (n : ℕ) → 10 ≤ n → length (decimal n) ≡ length (decimal (n / 10)) + 1
 more_width n h = ap length (more_digits n h) ∙ length-append (decimal (n / 10)) _
 
-pub some_digit : (n : ℕ) → 1 ≤ length (decimal n)
-some_digit = by_digits (λ (n : ℕ). 1 ≤ length (decimal n)) (λ n h. omega (arith, one_width n h)) (λ n h again. omega (arith, more_width n h))
-
 pub most_digits : (k n : ℕ) → n < 10 ^ suc k → length (decimal n) ≤ suc k
 most_digits zero n h = omega (arith, one_width n (omega arith))
 most_digits (suc k) n h =
@@ -110,70 +104,58 @@ byte_digits n h = most_digits 2 n (omega arith)
 pub usize_digits : (n : ℕ) → n < 2 ^ 64 → length (decimal n) ≤ 20
 usize_digits n h = most_digits 19 n (omega arith)
 
--- A number that is written from its last digit on: `left` is still to be written, up to place i, and the digits behind stand already.
+-- A number that is written from its last digit on: the digits before place i, those of `left`, are still to be written, and those behind stand.
 pub record Partly (n left i : ℕ) (before now : List ℕ) : Type 0 where
+  pub front : List ℕ
   pub behind : List ℕ
-  pub whole : decimal n ≡ decimal left ++ behind
-  pub count : length (decimal left) ≡ i + 1
-  pub inside : i < length before
-  pub kept : length now ≡ length before
-  pub same : now ≡ take (i + 1) before ++ (behind ++ drop (length (decimal n)) before)
+  pub whole : decimal n ≡ front ++ behind
+  pub count : length front ≡ i
+  pub digits : 0 < i → front ≡ decimal left
+  pub inside : i ≤ length before
+  pub same : now ≡ take i before ++ (behind ++ drop (length (decimal n)) before)
 
-pub partly_none : (n digits : ℕ) (before : List ℕ) → digits ≡ length (decimal n) → digits ≤ length before → Partly n n (digits - 1) before before
-partly_none n digits before e h =
-    let some = some_digit n in
-    let all : length (decimal n) ≡ digits - 1 + 1 = omega arith in
-    record {
-      behind = [];
-      whole = sym (append-nil (decimal n));
-      count = all;
-      inside = omega arith;
-      kept = refl;
-      same = sym (take-append-drop (length (decimal n)) before) ∙ ap (λ (k : ℕ). take k before ++ drop (length (decimal n)) before) all;
-    }
-
--- The byte at place i is stored.
-stored : {n left i : ℕ} {before now : List ℕ} (p : Partly n left i before now) (d : ℕ)
-    → set now i d ≡ take i before ++ (d ∷ (p.behind ++ drop (length (decimal n)) before))
-stored {n} {left} {i} {before} p d =
+-- The place before is written.
+stored : {n left i : ℕ} {before now : List ℕ} (p : Partly n left i before now) (j d : ℕ) → i ≡ suc j
+    → set now j d ≡ take j before ++ (d ∷ (p.behind ++ drop (length (decimal n)) before))
+stored {n} {left} {i} {before} p j d e =
     let rest = p.behind ++ drop (length (decimal n)) before in
-    ap (λ (l : List ℕ). set l i d) p.same
-    ∙ ap (λ (l : List ℕ). set (l ++ rest) i d) (ap (λ (k : ℕ). take k before) (add-one i) ∙ take-suc before i 0 p.inside)
-    ∙ ap (λ (l : List ℕ). set l i d) (append_snoc (take i before) (get_or before i 0) rest)
-    ∙ set_at (take i before) (get_or before i 0) rest d i (length-take-le i before (omega (arith, p.inside)))
+    ap (λ (l : List ℕ). set l j d) p.same
+    ∙ ap (λ (l : List ℕ). set (l ++ rest) j d) (ap (λ (k : ℕ). take k before) e ∙ take-suc before j 0 (omega (arith, p.inside)))
+    ∙ ap (λ (l : List ℕ). set l j d) (append_snoc (take j before) (get_or before j 0) rest)
+    ∙ set_at (take j before) (get_or before j 0) rest d j (length-take-le j before (omega (arith, p.inside)))
 
-pub partly_next : {n left i : ℕ} {before now : List ℕ} → Partly n left i before now → 10 ≤ left → Partly n (left / 10) (i - 1) before (set now i (left % 10 + 0x30))
-partly_next {n} {left} {i} {before} {now} p h =
-    let d = left % 10 + 0x30 in
-    let less : i ≡ i - 1 + 1 = omega (arith, more_width left h, some_digit (left / 10), p.count) in
-    record {
-      behind = d ∷ p.behind;
-      whole = p.whole ∙ ap (λ (l : List ℕ). l ++ p.behind) (more_digits left h) ∙ append_snoc (decimal (left / 10)) d p.behind;
-      count = omega (arith, more_width left h, p.count);
-      inside = omega (arith, p.inside);
-      kept = length-set now i d ∙ p.kept;
-      same = stored p d ∙ ap (λ (k : ℕ). take k before ++ (d ∷ (p.behind ++ drop (length (decimal n)) before))) less;
-    }
+module _ {n left i : ℕ} {before now : List ℕ} (p : Partly n left i before now) where
+  -- The digits still to be written end with the last of `left`, and before it are those of `left` divided by 10, or none.
+  step : (j : ℕ) (front : List ℕ) → i ≡ suc j → p.front ≡ front ++ ((left % 10 + 0x30) ∷ []) → (0 < j → front ≡ decimal (left / 10))
+      → Partly n (left / 10) j before (set now j (left % 10 + 0x30))
+  step j front e q digits =
+      record {
+        front = front;
+        behind = (left % 10 + 0x30) ∷ p.behind;
+        whole = p.whole ∙ ap (λ (l : List ℕ). l ++ p.behind) q ∙ append_snoc front (left % 10 + 0x30) p.behind;
+        count = omega (arith, p.count, ap length q ∙ length-append front ((left % 10 + 0x30) ∷ []));
+        digits = digits;
+        inside = omega (arith, p.inside);
+        same = stored p j (left % 10 + 0x30) e;
+      }
 
-pub partly_all : {n left i : ℕ} {before now : List ℕ} → Partly n left i before now → left < 10 → set now i (left + 0x30) ≡ over (decimal n) before
-partly_all {n} {left} {i} {before} p h =
-    let none : i ≡ 0 = omega (arith, one_width left h, p.count) in
-    let all : decimal n ≡ (left + 0x30) ∷ p.behind = p.whole ∙ ap (λ (l : List ℕ). l ++ p.behind) (one_digit left h) in
-    stored p (left + 0x30)
-    ∙ ap (λ (k : ℕ). take k before ++ ((left + 0x30) ∷ (p.behind ++ drop (length (decimal n)) before))) none
-    ∙ ap (λ (l : List ℕ). l ++ drop (length (decimal n)) before) (sym all)
+  pub partly_next : (j : ℕ) → i ≡ suc j → Partly n (left / 10) j before (set now j (left % 10 + 0x30))
+  partly_next j e =
+      let q : p.front ≡ decimal left = p.digits (omega arith) in
+      digit_case left
+      (λ h.
+      let one : left ≡ left % 10 = omega arith in
+      step j [] e (q ∙ one_digit left h ∙ ap (λ (k : ℕ). (k + 0x30) ∷ []) one) (λ g. absurd (omega (arith, p.count, ap length q, one_width left h))))
+      (λ h. step j (decimal (left / 10)) e (q ∙ more_digits left h) (λ g. refl))
 
 -- ---- What is given: a number alone, or a number, a colon and a place.
 pub length_given : (g : Given) → length (given_text g) ≡ length (decimal g.number) + length (place_text g.place)
 length_given g = length-append (decimal g.number) (place_text g.place)
 
-pub nowhere_text : (g : Given) → g.place ≡ Nowhere → given_text g ≡ decimal g.number
-nowhere_text g e = ap (λ (w : Where). decimal g.number ++ place_text w) e ∙ append-nil (decimal g.number)
+pub at_text : (g : Given) (i : ℕ) → g.place ≡ Some i → given_text g ≡ decimal g.number ++ (colon ∷ decimal i)
+at_text g i e = ap (λ (w : Option ℕ). decimal g.number ++ place_text w) e
 
-pub at_text : (g : Given) (i : ℕ) → g.place ≡ At i → given_text g ≡ decimal g.number ++ (colon ∷ decimal i)
-at_text g i e = ap (λ (w : Where). decimal g.number ++ place_text w) e
-
-pub at_length : (g : Given) (i : ℕ) → g.place ≡ At i → length (given_text g) ≡ length (decimal g.number) + 1 + length (decimal i)
+pub at_length : (g : Given) (i : ℕ) → g.place ≡ Some i → length (given_text g) ≡ length (decimal g.number) + 1 + length (decimal i)
 at_length g i e = ap length (at_text g i e) ∙ length-append (decimal g.number) (colon ∷ decimal i) ∙ omega arith
 
 -- ---- One more byte behind those laid over the front of a buffer.
@@ -190,7 +172,7 @@ pub length_line : (g : Given) (answer : List ℕ) → length (line g answer) ≡
 length_line g answer = simp (length-append, length_hex) (omega arith)
 
 pub too_short : (before : List ℕ) (g : Given) (answer : List ℕ) → length (given_text g) ≤ longest_given
-    → length before < length (given_text g) + 2 * length answer + 2 → Writes before g answer Short before
+    → length before < length (given_text g) + 2 * length answer + 2 → Writes before g answer None before
 unfolding lined
 too_short before g answer s h =
     record { answered = rw (lt-ltb (length before) (length (line g answer)) (omega (arith, length_line g answer))); buffer = refl; short = s }
@@ -203,7 +185,7 @@ pub written : (before : List ℕ) (g : Given) (at size : ℕ) (answer first last
     → size ≤ length before
     → first ≡ over (given_text g) before
     → last ≡ over (hex answer) (mid_of (at + 1) (length (set first at space) - (at + 1)) (set first at space))
-    → Writes before g answer (Written size)
+    → Writes before g answer (Some size)
     (set (put_mid (at + 1) (length (set first at space) - (at + 1)) (set first at space) last) (size - 1) newline)
 unfolding lined
 written before g at size answer first last s d e h p q =
@@ -212,7 +194,7 @@ written before g at size answer first last s d e h p q =
     let back : Laid (at + 1 + 2 * length answer) (w ++ hex answer) before (put_mid (at + 1) (length xs - (at + 1)) xs last) =
     laid_more (2 * length answer) (hex answer) last (laid_byte (given_text g) before first at space d (omega arith) p) (length_hex answer) (omega arith) q in
     record {
-      answered = rw (le-ltb (length before) (length (line g answer)) (omega (arith, length_line g answer))) (ap Written (omega (arith, length_line g answer)));
+      answered = rw (le-ltb (length before) (length (line g answer)) (omega (arith, length_line g answer))) (ap Some (omega (arith, length_line g answer)));
       buffer = (laid_byte (w ++ hex answer) before _ (size - 1) newline (omega (arith, back.count)) (omega arith) back.same).same;
       short = s;
     }
@@ -223,12 +205,12 @@ front_fits w before after n e p =
     let m : length after ≡ length w + length (drop (length w) before) = ap length p ∙ length-append w (drop (length w) before) in
     omega arith
 
-pub line_fits : (before : List ℕ) (g : Given) (answer after : List ℕ) (r : Lined) (n : ℕ) → r ≡ Written n → Writes before g answer r after → n ≤ length after
+pub line_fits : (before : List ℕ) (g : Given) (answer after : List ℕ) (r : Option ℕ) (n : ℕ) → r ≡ Some n → Writes before g answer r after → n ≤ length after
 unfolding lined
 line_fits before g answer after r n e p =
-    let a : Written n ≡ lined (length before) g answer = sym e ∙ p.answered in
-    let b : after ≡ over (line g answer) before = p.buffer ∙ ap (λ (q : Lined). over (bytes_of q g answer) before) e in
+    let a : Some n ≡ lined (length before) g answer = sym e ∙ p.answered in
+    let b : after ≡ over (line g answer) before = p.buffer ∙ ap (λ (q : Option ℕ). over (bytes_of q g answer) before) e in
     let most : line_length (lined (length before) g answer) ≤ length (line g answer) =
-    pick_case (λ (q : Lined). line_length q ≤ length (line g answer)) (ltb (length before) (length (line g answer))) Short (Written (length (line g answer)))
+    pick_case (λ (q : Option ℕ). line_length q ≤ length (line g answer)) (ltb (length before) (length (line g answer))) None (Some (length (line g answer)))
     (λ t. omega arith) (λ t. omega arith) in
     omega (arith, ap line_length a, front_fits (line g answer) before after (length (line g answer)) refl b)

@@ -4,22 +4,17 @@
 use std::rt::Clock;
 
 // A moment of the machine's clock: seconds, and the nanoseconds behind them.
-#[derive(Clone, Copy)]
+#[derive(Clone, Copy, Debug, PartialEq, Eq)]
 pub struct Timespec {
     pub tv_sec: i64,
     pub tv_nsec: i64,
 }
 
-// What the machine's monotonic clock shows. Where it can't be read, the nanoseconds are the -1 that no clock shows. Seconds that an i64 has no room for are the largest that it has.
-pub fn machine_time(machine: &impl Clock) -> Timespec {
-    match machine.monotonic() {
-        Ok(time) => Timespec {
-            tv_sec: i64::try_from(time.as_secs()).unwrap_or(i64::MAX),
-            tv_nsec: i64::from(time.subsec_nanos()),
-        },
-        Err(_) => Timespec {
-            tv_sec: 0,
-            tv_nsec: -1,
-        },
-    }
+// What the machine's monotonic clock shows, if it can be read and its seconds have room in an i64.
+pub fn machine_time(machine: &impl Clock) -> Option<Timespec> {
+    let time = machine.monotonic().ok()?;
+    Some(Timespec {
+        tv_sec: i64::try_from(time.as_secs()).ok()?,
+        tv_nsec: i64::from(time.subsec_nanos()),
+    })
 }

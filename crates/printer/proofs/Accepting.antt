@@ -6,6 +6,7 @@ use mathlib.Core.List.{List, [], ◌∷◌}
 use mathlib.Core.Logic.{◌↔◌}
 use mathlib.Core.Path.{◌≡◌, refl, sym, ap, subst}
 use native.Mathlib.Omega.{arith}
+use Rattle.std.proofs.Common.{Option}
 use borrow.Author.Tests.{le-leb, leb-true, eqb-true, eq-eqb}
 use lib.Dec.{eqb, leb}
 use lib.ListN.{take, drop}
@@ -79,7 +80,7 @@ of_table P i n fit x0A x0B x0C x1C x39 x40 x42 x43 x52 x94 xD6 =
     pick_case Q (eqb i 0xD6) _ _ (λ h _. here 0xD6 xD6 h) (λ _ h. never h)))))))))))
     fit
   where
-    Q : Size → Type 0
+    Q : Option Size → Type 0
     Q z = fits z n ≡ true → P i
 
     here : (k : ℕ) → P k → eqb i k ≡ true → P i

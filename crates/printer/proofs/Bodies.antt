@@ -2,18 +2,18 @@
 use Prim.Native.Nat.{ℕ, ◌-◌, ◌≤◌, ◌<◌}
 use mathlib.Core.Bool.{Bool, true, false, not}
 use mathlib.Core.List.{List, [], ◌∷◌, ◌++◌}
-use mathlib.Core.Path.{◌≡◌, refl, subst, ◌∙◌, ap}
+use mathlib.Core.Path.{◌≡◌, refl, sym, subst, ◌∙◌, ap}
 use native.Mathlib.Omega.{arith}
-use borrow.Author.Tests.{eqb-true}
+use borrow.Author.Tests.{eqb-false, eqb-true}
 use lib.Dec.{eqb}
 use lib.ListN.{length, length-drop, drop_of_length-le}
 use lib.Seq.{length-take-le}
-use Rattle.frame.specs.Ground.{pick, plain, both, has}
+use Rattle.frame.specs.Ground.{pick, both, has}
 use Rattle.frame.specs.declared.given.Given.{Given}
-use Rattle.frame.proofs.Ground.{never, both_true, plain_given, true_both}
+use Rattle.frame.proofs.Ground.{never, both_true, true_both}
 use Rattle.content.specs.Content.{is_content, verdict}
 use Rattle.library.specs.Record.{Record, records}
-use Rattle.library.specs.Store.{Keeps, body_of, fit_behind, has_room, held, is_number, is_store, kept, store_size, stored, without, keep_tests}
+use Rattle.library.specs.Store.{Keeps, body_of, fit_behind, has_room, held, is_number, is_store, kept, store_size, stored, without}
 use Rattle.library.proofs.Stores.{none_held}
 use Rattle.library.proofs.StoreLaws.{store_tells, storing_stores}
 use Rattle.printer.specs.Jet.{good_parameters}
@@ -82,28 +82,35 @@ held_number n before (r ∷ rs) f h =
     go true e k again h = subst (λ (i : ℕ). is_number i ≡ true) (eqb-true r.number n e) k
     go false e k again h = again h
 
--- So by the length of the body that is found a number is there or not.
-pub held_none : (store : List ℕ) (n : ℕ) → valid_store store ≡ true → length (body_of n (records store)) ≡ 0 → held n (records store) ≡ false
-held_none store n v e = go (held n (records store)) refl
-  where
-    go : (t : Bool) → held n (records store) ≡ t → held n (records store) ≡ false
-    go true h = absurd (omega (arith, (found_good store n v h).long))
-    go false h = h
+-- So by the length of the body that is found a number is there or not; and one that is there is good.
+module _ (store : List ℕ) (n : ℕ) {found : List ℕ} (v : valid_store store ≡ true) (f : found ≡ body_of n (records store)) where
+  pub held_none : true ≡ eqb (length found) 0 → held n (records store) ≡ false
+  held_none e = go (held n (records store)) refl
+    where
+      none : length (body_of n (records store)) ≡ 0
+      none = sym (ap length f) ∙ eqb-true (length found) 0 (sym e)
 
-pub none_there : (store : List ℕ) (n : ℕ) → valid_store store ≡ true → length (body_of n (records store)) ≡ 0 → is_there store n ≡ false
-none_there store n v e = rw (held_none store n v e) (neither (is_number n))
+      go : (t : Bool) → held n (records store) ≡ t → held n (records store) ≡ false
+      go true h = absurd (omega (arith, none, (found_good store n v h).long))
+      go false h = h
 
-pub some_held : (n : ℕ) (rs : List Record) → (length (body_of n rs) ≡ 0 → ⊥) → held n rs ≡ true
-some_held n rs e = go (held n rs) refl
-  where
-    go : (t : Bool) → held n rs ≡ t → held n rs ≡ true
-    go true h = h
-    go false h = absurd (e (ap length (none_held n rs h)))
+  pub none_there : true ≡ eqb (length found) 0 → is_there store n ≡ false
+  none_there e = rw (held_none e) (neither (is_number n))
 
-pub some_there : (store : List ℕ) (n : ℕ) → valid_store store ≡ true → (length (body_of n (records store)) ≡ 0 → ⊥) → is_there store n ≡ true
-some_there store n v e =
-    let h = some_held n (records store) e in
-    true_both _ _ (held_number n [] (records store) (store_tells store (store_valid store v).formed).numbers h) h
+  pub held_some : false ≡ eqb (length found) 0 → held n (records store) ≡ true
+  held_some e = go (held n (records store)) refl
+    where
+      go : (t : Bool) → held n (records store) ≡ t → held n (records store) ≡ true
+      go true h = h
+      go false h = absurd (eqb-false (length found) 0 (sym e) (ap length (f ∙ none_held n (records store) h)))
+
+  pub some_there : false ≡ eqb (length found) 0 → is_there store n ≡ true
+  some_there e =
+      let h = held_some e in
+      true_both _ _ (held_number n [] (records store) (store_tells store (store_valid store v).formed).numbers h) h
+
+  pub some_good : false ≡ eqb (length found) 0 → GoodBody found
+  some_good e = rw f (found_good store n v (held_some e))
 
 -- ---- Storing a good message.
 good_without : (n : ℕ) (rs : List Record) → good_bodies rs ≡ true → good_bodies (without n rs) ≡ true
@@ -130,11 +137,11 @@ stored_valid store n body v k b room =
     true_both _ _ x.formed (rw x.order (good_kept n body (records store) a.bodies b))
 
 -- What `keep` leaves where the tests before it hold.
-pub kept_changes : (store d : List ℕ) {r : ℕ} {g : Given} {store' : List ℕ} → g ≡ plain r → valid_store store ≡ true → is_number (stored_number d) ≡ true
+pub kept_changes : (store d : List ℕ) {g : Given} {store' : List ℕ} → valid_store store ≡ true → is_number (stored_number d) ≡ true
     → good_parameters (body_parameters (stored_body d)) ≡ true → is_content (body_content (stored_body d)) ≡ true
-    → Keeps store (stored_number d) (stored_body d) r store'
+    → Keeps store (stored_number d) (stored_body d) g store'
     → ChangesStore (store_tests store d) (storing (stored_number d) (stored_body d)) store g store'
 unfolding is_store
-kept_changes store d p v a b c k =
+kept_changes store d v a b c k =
     let size = (both_true (eqb (length store) store_size) _ (store_valid store v).formed).0 in
-    record { gives = p ∙ ap plain k.number ∙ plain_given (keep_tests (stored_number d) (stored_body d) store) refl ∙ rw (size, a, b, c) refl; bytes = k.store ∙ rw (size, a, b, c) refl }
+    record { gives = k.gives ∙ rw (size, a, b, c) refl; bytes = k.store ∙ rw (size, a, b, c) refl }

@@ -9,6 +9,7 @@ use Rattle.frame.specs.declared.given.Given.{Given}
 use Rattle.frame.specs.Wire.{size_of, fits}
 use Rattle.frame.specs.Receive.{received}
 use Rattle.frame.specs.Laws.{ReadsBack, heard, heard_in}
+use Rattle.frame.specs.declared.given.Refusal.TheVariants.{WrongLength}
 use Rattle.frame.specs.declared.receive.Received.TheVariants.{Misfit, Frame}
 use Rattle.frame.proofs.Ground.{both_true, unless_case}
 use Rattle.frame.proofs.Laws.{built_read_back}
@@ -58,7 +59,7 @@ data_heard : (identifier : ℕ) (x d : List ℕ) → heard identifier x ≡ hear
 data_heard identifier x d e = cc
 
 handled_back : (p : Printer) (store s : List ℕ) (identifier : ℕ) (d : List ℕ) (t : Bool)
-    → received s ≡ pick t (Frame identifier (length d) (length d + 4)) (Misfit 7 identifier (length d) (length d + 4))
+    → received s ≡ pick t (Frame identifier (length d) (length d + 4)) (Misfit WrongLength identifier (length d) (length d + 4))
     → heard_in s (received s) ≡ heard identifier d
     → handled p store s (received s) ≡ pick t (obeyed p (order p store identifier d) (length d + 4)) (refusal p (plain 7) (length d + 4))
 handled_back p store s identifier d true e h =

@@ -16,6 +16,7 @@ use Rattle.frame.specs.Holding.{buffer_behind, holding_behind, holding_size, is_
 use Rattle.frame.specs.declared.holding.Holding.{Holding}
 use Rattle.frame.specs.declared.holding.Holding.TheVariants.{Held, Dropping}
 use Rattle.frame.specs.declared.receive.Received.{Received}
+use Rattle.frame.specs.declared.given.Refusal.TheVariants.{TooLong}
 use Rattle.frame.specs.declared.receive.Received.TheVariants.{Partial, Refused, Misfit, Enquiry, Update, Frame}
 use Rattle.frame.proofs.Ground.{checked_case}
 use Rattle.frame.proofs.Heard.{frame_inside, update_inside}
@@ -178,7 +179,7 @@ module _ {model : ℕ} (m store buffer : List ℕ) (n b : ℕ) (s : List ℕ) (g
   waits : received together ≡ Partial → byte_run (stand m store (Held n) buffer) (b ∷ s) ≡ byte_run (stand m store (Held (n + 1)) (set buffer n b)) s
   waits e = rw (said_handled (stand m store (Held n) buffer) b g, e) refl
 
-  drops : received together ≡ Refused 4 (length together)
+  drops : received together ≡ Refused TooLong (length together)
       → byte_run (stand m store (Held n) buffer) (b ∷ s)
       ≡ saying (reply (refusal (printer_of m) (plain 4) (length together))) (byte_run (stand m store Dropping (set buffer n b)) s)
   drops e = rw (said_handled (stand m store (Held n) buffer) b g, e) refl
@@ -200,7 +201,7 @@ module _ {model : ℕ} (m store buffer : List ℕ) (n b : ℕ) (s : List ℕ) (g
       → heard m store all_of ≡ refusal (printer_of m) (plain 4) (length all_of)
   heard_over v w four =
       valid_handled m store all_of v w
-      ∙ ap (handled (printer_of m) store all_of) (ap received (sym in_front) ∙ four_stays together s four ∙ ap (λ (l : List ℕ). Refused 4 (length l)) in_front)
+      ∙ ap (handled (printer_of m) store all_of) (ap received (sym in_front) ∙ four_stays together s four ∙ ap (λ (l : List ℕ). Refused TooLong (length l)) in_front)
 
 -- What is true of the bytes behind this one.
 abbrev Again : ℕ → List ℕ → Type 0
@@ -255,7 +256,7 @@ module _ (model : ℕ) (m store buffer : List ℕ) (n b : ℕ) (s : List ℕ) (r
       none_left : length all-bytes ≤ 0 → ⊥
       none_left q = omega (arith, length_all)
   case_four (suc calls) long four =
-      let e : received whole ≡ Refused 4 (length whole) = ap received (sym (append-nil whole)) ∙ four_stays whole [] four ∙ ap (λ (l : List ℕ). Refused 4 (length l)) (append-nil whole) in
+      let e : received whole ≡ Refused TooLong (length whole) = ap received (sym (append-nil whole)) ∙ four_stays whole [] four ∙ ap (λ (l : List ℕ). Refused TooLong (length l)) (append-nil whole) in
       let q : heard m store all-bytes ≡ refusal (printer_of m) (plain 4) (length all-bytes) = heard_over m store buffer n b s sound r.sound w four in
       let some : length all-bytes ≡ 0 → ⊥ = λ z. omega (arith, length_all) in
       let loud : (heard m store all-bytes).number ≡ 3 → ⊥ = λ z. omega (arith, sym (ap (λ (o : Outcome). o.number) q) ∙ z) in

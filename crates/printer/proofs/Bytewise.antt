@@ -10,6 +10,9 @@ use lib.Dec.{eqb}
 use lib.ListN.{length, set, take, drop}
 use Rattle.frame.specs.Ground.{all, plain, within}
 use Rattle.frame.specs.declared.given.Given.{Given}
+use Rattle.frame.specs.Given.{given_in, given_of}
+use Rattle.frame.specs.declared.given.Refusal.{Refusal}
+use Rattle.frame.specs.declared.given.Refusal.TheVariants.{NotWhole}
 use Rattle.frame.specs.Receive.{received, number}
 use Rattle.frame.specs.Holding.{buffer_behind, holding_behind, is_holding}
 use Rattle.frame.specs.declared.holding.Holding.{Holding}
@@ -74,7 +77,6 @@ fulfils_counted e x =
       meets =
           record {
             gives = q.gives;
-            places = q.places;
             consumes = refl;
             answers = q.answers;
             prints = q.prints;
@@ -90,7 +92,7 @@ pub takes_held : (m store buffer answer strips : List ℕ) (n byte : ℕ) {a b :
     → let s = take (n + 1) (set buffer n byte) in
     Fulfils (handled (printer_of m) store s (received s)) m store answer strips a m' store' answer' strips'
     → b ≡ counted a
-    → h ≡ holding_behind (Held n) a.number
+    → h ≡ holding_behind (Held n) (given_in a.outcome).number
     → buffer' ≡ set buffer n byte
     → let t = joined_by n buffer byte in
     Takes (taken (handled (printer_of m) store t (received t))) m store (Held n) buffer byte answer strips (record { answered = b; holding = h }) m' store' buffer' answer' strips'
@@ -100,7 +102,7 @@ takes_held m store buffer answer strips n byte room x e q w =
     let y = fulfils_same (ap (λ (l : List ℕ). handled (printer_of m) store l (received l)) (sym front)) x in
     record {
       fulfils = fulfils_counted e y;
-      holds = q ∙ ap (holding_behind (Held n)) y.meets.gives;
+      holds = q ∙ ap (λ (g : Given). holding_behind (Held n) g.number) y.meets.gives;
       buffer_bytes = rw (handled_loud (printer_of m) store t) w;
     }
 
@@ -120,20 +122,21 @@ untaken_buffer Dropping buffer byte number e = refl
 not_done : (number : ℕ) → within 1 2 number ≡ true → number ≡ 0 → ⊥
 not_done number e z = false≢true (subst (λ (k : ℕ). within 1 2 k ≡ true) z e)
 
-pub byte_untaken : (m store : List ℕ) (holding : Holding) (buffer : List ℕ) (byte : ℕ) (answer strips : List ℕ) {number : ℕ} {r : Taken}
+pub byte_untaken : (m store : List ℕ) (holding : Holding) (buffer : List ℕ) (byte : ℕ) (answer strips : List ℕ) {number : ℕ} {why : Refusal} {r : Taken}
+    → given_of why ≡ plain number
     → Fails (byte_tests m (handed_byte store holding buffer byte answer strips)) (plain number)
     → within 1 2 number ≡ true
-    → Untaken number holding r
+    → Untaken why holding r
     → TakesByte m store holding buffer byte answer strips r m store buffer answer strips
 unfolding single
-byte_untaken m store holding buffer byte answer strips {number} f e u =
+byte_untaken m store holding buffer byte answer strips {number} g f e u =
     let h = handed_byte store holding buffer byte answer strips in
     let q = fails_checked (λ (r : Given). silent (printer_of m) r.number) (byte_handled m h holding) f in
     record {
       takes =
           rw q
           (record {
-            fulfils = record { meets = meets_silent (printer_of m) m answer strips (not_done number e) u.answered; stores = refl };
+            fulfils = record { meets = meets_silent (printer_of m) m answer strips g (not_done number e) u.answered; stores = refl };
             holds = u.holds ∙ untaken_number holding number e;
             buffer_bytes = untaken_buffer holding buffer byte number e;
           });
@@ -154,7 +157,7 @@ byte_taken {m} {store} {holding} {buffer} {byte} {n} {answer} {strips} e f x =
 pub byte_dropped : (m store : List ℕ) {holding : Holding} (buffer : List ℕ) (byte : ℕ) (answer strips : List ℕ) {a b : Answered}
     → holding ≡ Dropping
     → Passes (byte_tests m (handed_byte store holding buffer byte answer strips))
-    → Silent 3 a
+    → Silent NotWhole a
     → b ≡ counted a
     → TakesByte m store holding buffer byte answer strips (record { answered = b; holding = Dropping }) m store buffer answer strips
 unfolding single
@@ -165,7 +168,7 @@ byte_dropped m store {holding} buffer byte answer strips e f s c =
       takes =
           rw (q, e)
           (record {
-            fulfils = fulfils_counted c (record { meets = meets_silent (printer_of m) m answer strips (λ z. omega arith) s; stores = refl });
+            fulfils = fulfils_counted c (record { meets = meets_silent (printer_of m) m answer strips refl (λ z. omega arith) s; stores = refl });
             holds = refl;
             buffer_bytes = refl;
           });

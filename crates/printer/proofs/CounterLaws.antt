@@ -12,9 +12,9 @@ use lib.Seq.{drop_at, take_at}
 use Rattle.content.specs.Byte.{all_characters, is_character}
 use Rattle.frame.proofs.Ground.{both_true, true_both, true_within, pick_case}
 use Rattle.printer.specs.Number.{all_digits, digit, digits, in_bytes, is_digit, number_of, value, value_from}
-use Rattle.printer.specs.Counter.{Counter, counted, counter_bytes, counter_of, counter_text, final, good_settings, grown, initial, is_set, lot, moved, next_batch, next_value, set_to, step, valid_counter}
+use Rattle.printer.specs.Counter.{Counter, counted, counter_text, final, good_settings, grown, initial, is_set, lot, moved, next_batch, next_value, set_to, step, valid_counter}
 use Rattle.printer.specs.CounterLaws.{AllBytes, BytesValue, CountSamples, CountStays, CounterSmall, CounterTold, CounterWhole, DigitsPrint, DigitsValue, SetValid, SettingsSmall}
-use Rattle.printer.proofs.Numbers.{Bytes, bytes_drop, bytes_take, digits_part, four_fit, is_digit_true, number_in_bytes, three_fit, value_fits}
+use Rattle.printer.proofs.Numbers.{Bytes, bytes_drop, bytes_take, digits_part, is_digit_true, number_in_bytes, three_fit, value_fits}
 use Rattle.printer.proofs.Counters.{Counting, counter_again, counter_back, good_tells, set_one, tells_valid, valid_tells}
 
 -- ---- Digits.
@@ -151,28 +151,6 @@ count_stays c v =
 -- ---- What is written of a counter is read back.
 pub counter_whole : CounterWhole
 counter_whole = (counter_again, (λ b full f. counter_back b full (as_bytes b f)))
-
--- A counter that lies in bytes fits them.
-pub bytes_fit : (b : List ℕ) → Bytes b → ((counter_of b).value < 4294967296) × ((counter_of b).batch < 16777216)
-unfolding counter_of
-bytes_fit b f = (
-  four_fit (take 4 (drop 27 b)) (short 4 27 b) (bytes_take 4 (drop 27 b) (bytes_drop 27 b f)),
-  three_fit (take 3 (drop 31 b)) (short 3 31 b) (bytes_take 3 (drop 31 b) (bytes_drop 31 b f)),
-)
-
-pub set_again : (q : List ℕ) → length q ≡ 26 → Bytes q → good_settings q ≡ true → counter_of (counter_bytes (set_to q)) ≡ set_to q
-set_again q h f e = counter_again (set_to q) h (omega (arith, settings_small q (λ i. (f i).fits) e)) (omega arith)
-
-pub counted_again : (c : Counter) → length c.settings ≡ 26 → Bytes c.settings → valid_counter c ≡ true → c.value < 4294967296 → c.batch < 16777216
-    → counter_of (counter_bytes (counted c)) ≡ counted c
-unfolding counted
-counted_again c h f v n b =
-    pick_case (λ (k : Counter). counter_of (counter_bytes k) ≡ k) (is_set c) (moved c) c
-    (λ e.
-    let valid : valid_counter (moved c) ≡ true = tells_valid (moved c) (set_one c e) (moved_counts c (valid_tells c v e)) in
-    let small = counter_small (moved c) (λ i. (f i).fits) valid e in
-    counter_again (moved c) h (omega arith) small.1)
-    (λ _. counter_again c h n b)
 
 -- ---- The samples, computed.
 pub count_samples : CountSamples

@@ -1,18 +1,22 @@
 -- The laws of counters: what good settings and a valid counter tell, and that the 34 bytes of a counter and the counter are one.
-use Prim.Native.Nat.{ℕ, ◌+◌, ◌≤◌, ◌<◌}
+use Prim.Native.Nat.{ℕ, ◌-◌, ◌≤◌, ◌<◌}
 use mathlib.Core.Bool.{Bool, true, false}
 use mathlib.Core.List.{List, [], ◌∷◌, ◌++◌, append_assoc, append-nil}
-use mathlib.Core.Path.{◌≡◌, sym, ◌∙◌, ap, ap₂}
+use mathlib.Core.Path.{◌≡◌, refl, sym, ◌∙◌, ap, ap₂, subst}
 use native.Mathlib.Omega.{arith}
-use borrow.Author.Tests.{eqb-true, le-leb, leb-true, lt-ltb, ltb-true}
+use borrow.Author.Tests.{eqb-true, leb-true, lt-ltb, ltb-true}
+use borrow.Rule.Slice.PartMut.{put_mid, same_len_mid}
 use lib.Dec.{eqb, leb, ltb}
-use lib.ListN.{length, get_or, take, drop, set, length-append, length-drop, drop_of_length-le, take-append-drop}
-use lib.Seq.{drop_at, drop-drop, get_or_at, length-take-le, sets, sets-eq, take_all, take_at, take-suc, take-suc-set}
-use Rattle.frame.specs.Ground.{both, over, pick, unless, within}
-use Rattle.frame.specs.Build.{Lays}
-use Rattle.frame.proofs.Ground.{both_true, true_both, true_within, within_true, drop_next, three_at}
+use lib.ListN.{length, get_or, take, drop, set, length-append, length-drop, length-take, drop_of_length-le, take-append-drop}
+use lib.Seq.{drop_at, drop-drop, get_or_at, length-take-le, take_all, take_at, take-suc, take-suc-set}
+use Rattle.frame.specs.Ground.{both, unless, within}
+use Rattle.frame.proofs.Ground.{both_true, true_both, true_within, within_true, drop_next}
 use Rattle.printer.specs.Number.{digits, in_bytes, number_of}
 use Rattle.printer.specs.Counter.{Counter, all_digits_in, control, counted, counter_bytes, counter_of, counter_size, counter_text, final, good_settings, initial, is_set, lot, next_batch, next_value, set_to, step, valid_counter}
+use Rattle.std.proofs.Common.{Option, Some}
+use Rattle.std.specs.Option.{IfSome}
+use Rattle.printer.specs.Settings.{Reads, Says}
+use Rattle.printer.specs.declared.counter.Settings.{Settings}
 use Rattle.printer.proofs.Numbers.{Bytes, bytes_back, bytes_drop, bytes_take, number_in_bytes}
 
 -- ---- What a test of a counter tells.
@@ -65,6 +69,10 @@ tells_valid c s k =
 pub set_one : (c : Counter) → is_set c ≡ true → c.set ≡ 1
 set_one c e = eqb-true c.set 1 e
 
+-- What settings say, where they are read.
+pub said_by : {q : List ℕ} {r : Option Settings} {s : Settings} → Reads q r → r ≡ Some s → Says q s
+said_by {q} p e = subst (λ (o : Option Settings). IfSome o (Says q)) e p.said
+
 -- ---- A counter and its bytes.
 module _ (b : List ℕ) (full : length b ≡ counter_size) where
   pub settings_long : length (take 26 b) ≡ 26
@@ -102,36 +110,36 @@ module _ (b : List ℕ) (full : length b ≡ counter_size) where
   counted_bytes {v} {n} e p q =
       rw (e, ← p, ← q) (ap (λ (l : List ℕ). l ++ (in_bytes 4 v ++ in_bytes 3 n)) front ∙ append_assoc (take 26 b) (get_or b 26 0 ∷ []) (in_bytes 4 v ++ in_bytes 3 n))
 
-  -- Other settings are laid over the front, the flag behind them, and a count from the start.
-  pub settings_laid : (q : List ℕ) {last : List ℕ} {r : Bool} → length q ≡ 26 → Lays b q r last → last ≡ over q b
-  settings_laid q h p = p.buffer ∙ ap (λ (t : Bool). over (pick t q []) b) (le-leb (length q) (length b) (omega arith))
+  -- Value and batch are written behind the front.
+  pub figures_put : (vs ws : List ℕ) → length vs ≡ 4 → length ws ≡ 3
+      → put_mid 31 (length (put_mid 27 4 b vs) - 31) (put_mid 27 4 b vs) ws ≡ take 27 b ++ (vs ++ ws)
+  figures_put vs ws v w =
+      let rest : List ℕ = drop 4 (drop 27 b) in
+      let m : List ℕ = put_mid 27 4 b vs in
+      let size : length m ≡ 34 = same_len_mid 27 4 b vs (v ∙ sym (length-take-le 4 (drop 27 b) (simp length-drop (omega arith)))) ∙ full in
+      let long : length (take 27 b ++ vs) ≡ 31 = simp (length-append, length-take) (omega arith) in
+      let front : take 31 m ≡ take 27 b ++ vs = ap (take 31) (sym (append_assoc (take 27 b) vs rest)) ∙ take_at (take 27 b ++ vs) rest 31 long in
+      let none : drop (length m - 31) (drop 31 m) ≡ [] = drop_of_length-le (drop 31 m) {i = length m - 31} (simp length-drop (omega arith)) in
+      ap₂ (λ (x y : List ℕ). x ++ (ws ++ y)) front none
+      ∙ ap (λ (l : List ℕ). (take 27 b ++ vs) ++ l) (append-nil ws)
+      ∙ append_assoc (take 27 b) vs ws
 
-  pub set_bytes : (q : List ℕ) {last : List ℕ} {n : ℕ} → length q ≡ 26 → last ≡ over q b → n ≡ initial q
-      → take 27 (set last 26 1) ++ (in_bytes 4 n ++ in_bytes 3 0) ≡ counter_bytes (set_to q)
+  -- Other settings stand in front, the flag behind them, and a count from the start.
+  pub set_bytes : (q : List ℕ) {n : ℕ} → length q ≡ 26 → n ≡ initial q
+      → take 27 (set (put_mid 0 26 b q) 26 1) ++ (in_bytes 4 n ++ in_bytes 3 0) ≡ counter_bytes (set_to q)
   unfolding counter_bytes
-  set_bytes q {last} {n} h l e =
-      let long : 26 < length last = rw l (simp (length-append, length-drop) (omega arith)) in
+  set_bytes q {n} h e =
+      let last : List ℕ = q ++ drop 26 b in
+      let long : 26 < length last = simp (length-append, length-drop) (omega arith) in
       ap (λ (k : List ℕ). k ++ (in_bytes 4 n ++ in_bytes 3 0))
-      (take-suc-set last 26 1 long ∙ ap (λ (k : List ℕ). k ++ (1 ∷ [])) (ap (take 26) l ∙ take_at q (drop (length q) b) 26 h))
+      (take-suc-set last 26 1 long ∙ ap (λ (k : List ℕ). k ++ (1 ∷ [])) (take_at q (drop 26 b) 26 h))
       ∙ append_assoc q (1 ∷ []) (in_bytes 4 n ++ in_bytes 3 0)
       ∙ rw e
 
-  -- Seven bytes written from 27 on.
-  pub figures_put : (vs : List ℕ) → length vs ≡ 7 → sets b 27 vs ≡ take 27 b ++ vs
-  figures_put vs e =
-      sets-eq vs b 27 (omega arith)
-      ∙ ap (λ (l : List ℕ). (take 27 b ++ vs) ++ l) (drop_of_length-le b {i = 27 + length vs} (omega arith))
-      ∙ append-nil (take 27 b ++ vs)
-
-  pub text_put : (d : List ℕ) → Bytes b → d ≡ digits (number_of (take 4 (drop 27 b)))
-      → get_or d 0 0 ∷ get_or d 1 0 ∷ get_or d 2 0 ∷ get_or d 3 0 ∷ get_or d 4 0 ∷ get_or d 5 0 ∷ get_or d 6 0 ∷ get_or d 7 0 ∷ get_or d 8 0
-      ∷ get_or b 31 0 ∷ get_or b 32 0 ∷ get_or b 33 0 ∷ [] ≡ counter_text (counter_of b)
-  unfolding counter_of digits
-  text_put d f e =
-      rw e
-      (ap (λ (l : List ℕ). digits (number_of (take 4 (drop 27 b))) ++ l)
-      (sym (bytes_back 3 (take 3 (drop 31 b)) (length-take-le 3 (drop 31 b) (simp length-drop (omega arith))) (bytes_take 3 (drop 31 b) (bytes_drop 31 b f))
-      ∙ three_at b 31 (omega arith))))
+-- The digits of the value, and the batch behind them.
+pub text_put : (c : Counter) {d w : List ℕ} → d ≡ digits c.value → w ≡ in_bytes 3 c.batch → put_mid 9 3 (d ++ (0 ∷ 0 ∷ 0 ∷ [])) w ≡ counter_text c
+unfolding digits
+text_put c e g = rw (e, g) refl
 
 -- A counter is its four parts.
 same : (c : Counter) {s : List ℕ} {x v n : ℕ} → s ≡ c.settings → x ≡ c.set → v ≡ c.value → n ≡ c.batch
@@ -150,7 +158,3 @@ counter_again c h v n =
     (get_or_at c.settings c.set rest 0 26 h)
     (ap (λ (k : List ℕ). number_of (take 4 k)) behind ∙ number_in_bytes 4 c.value v)
     (ap (λ (k : List ℕ). number_of (take 3 k)) last ∙ number_in_bytes 3 c.batch n)
-
-pub length_counter : (c : Counter) → length c.settings ≡ 26 → length (counter_bytes c) ≡ counter_size
-unfolding counter_bytes
-length_counter c h = simp length-append (omega arith)

@@ -17,14 +17,13 @@ use Rattle.frame.proofs.Laws as frame-laws
 use Rattle.frame.proofs.Ground.{both_true, given_number, within_true}
 use Rattle.content.specs.Byte.{all_characters}
 use Rattle.content.specs.Machine.{start}
-use Rattle.content.specs.Content.{verdict}
+use Rattle.content.specs.Content.{good, verdict}
 use Rattle.content.specs.Position.{field_positions, is_field_position, marks}
 use Rattle.content.specs.Edit.{replaced}
 use Rattle.content.specs.Marks.{tree_letters, tree_marks}
 use Rattle.content.specs.Tree.{tree_of}
 use Rattle.content.specs.Update.{laid}
 use Rattle.content.specs.declared.position.Mark.{Mark}
-use Rattle.content.specs.declared.test.Verdict.TheVariants.{Good}
 use Rattle.content.specs.declared.position.Mark.TheVariants.{Structure}
 use Rattle.content.proofs.ChangeLaws.{edit_addresses, edit_elsewhere, edit_keeps_length, marks_of_content, positions_of_content, update_elsewhere, update_keeps_length, update_letters, update_taken_where}
 use Rattle.printer.specs.Jet.{Jet, has_message, message}
@@ -168,7 +167,7 @@ edits_only_addressed m store s n consumed v w e z =
 -- ---- An update.
 -- A jet has no message, or one that is read as good: so its tree says which positions an update changes, and what they become.
 module _ (p : Printer) (n : ℕ) (v : valid p ≡ true) (on : 1 ≤ n) where
-  message_case : (P : List ℕ → Type 0) → P [] → ((s : List ℕ) → verdict s ≡ Good → P s) → P (message (jet_at p n))
+  message_case : (P : List ℕ → Type 0) → P [] → ((s : List ℕ) → verdict s ≡ good → P s) → P (message (jet_at p n))
   message_case P none some = go (has_message (jet_at p n)) refl
     where
       go : (t : Bool) → has_message (jet_at p n) ≡ t → P (message (jet_at p n))

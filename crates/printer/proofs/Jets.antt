@@ -1,44 +1,36 @@
 -- The bytes of a jet: what is read from them, and what they become when a message, parameters or a count are written.
-use Prim.Native.Nat.{ℕ, suc, ◌+◌, ◌-◌, ◌/◌, ◌%◌, ◌≤◌}
+use Prim.Native.Nat.{ℕ, suc, ◌+◌, ◌-◌, ◌≤◌}
 use mathlib.Core.Bool.{Bool, true, false}
-use mathlib.Core.List.{List, [], ◌∷◌, ◌++◌, append_assoc, append-nil}
+use mathlib.Core.List.{List, [], ◌∷◌, ◌++◌, append_assoc}
 use mathlib.Core.Path.{◌≡◌, refl, sym, ◌∙◌, ap}
 use native.Mathlib.Omega.{arith}
-use borrow.Author.Tests.{le-leb}
+use Rattle.std.proofs.Common.{Result, Err}
 use borrow.Rule.Slice.PartMut.{mid_of, put_mid, put_same}
-use lib.ListN.{length, get_or, take, drop, set, length-append, length-take, length-drop, take-append-drop, drop_of_length-le}
+use lib.ListN.{length, get_or, take, drop, length-append, length-take, length-drop, take-append-drop}
 use lib.Seq.{length-take-le, drop-drop, take-add, take_at, take_all, take-take, drop-append-le, get_or-take, get_or-drop}
 use Rattle.frame.specs.Ground.{Test, all, checked, given, over, pick}
+use Rattle.frame.specs.Given.{given_in, numbered}
+use Rattle.frame.specs.declared.given.Refusal.{Refusal}
 use Rattle.frame.specs.Wire.{word}
-use Rattle.frame.specs.Build.{Lays}
-use Rattle.frame.proofs.Ground.{checked_all, checked_refuses, length_over, over_over, lent_tail, tail_back, laid_behind}
+use Rattle.frame.proofs.Ground.{checked_all, checked_refuses, length_over, over_over, lent_tail, tail_back}
 use Rattle.content.specs.Machine.{Mode, start, step}
 use Rattle.content.specs.Position.{mark_of, is_field_position, field_positions_from, field_positions}
-use Rattle.content.specs.Edit.{Edits, edit_tests, edited, given_by, replaced}
+use Rattle.content.specs.Edit as edit
+use Rattle.content.specs.Edit.{Edits, edit_tests, edited, replaced}
 use Rattle.content.specs.Update.{laid}
-use Rattle.content.specs.declared.edit.Edited.{Edited}
-use Rattle.content.specs.declared.edit.Edited.TheVariants.{Done, Refused}
 use Rattle.printer.specs.Number.{number_of, in_bytes}
 use Rattle.printer.specs.Counter.{Counter, set_to, counted, counter_size, counter_of, counter_bytes}
 use Rattle.printer.specs.Jet.{message, parameters, general_place, counter_place, jet_size, jet_of, jet_bytes, with_message, with_parameters, counted_jet}
 use Rattle.printer.specs.Change.{BecomesJet, edited_jet, updated_jet, with_both}
 use Rattle.printer.proofs.Numbers.{Bytes, bytes_take, bytes_drop, bytes_back}
 use Rattle.printer.proofs.Counters.{counter_back}
+use Rattle.printer.proofs.Orders.{given_numbered}
 
 -- ---- A number of two bytes.
 pub two_read : (b : List ℕ) → 2 ≤ length b → number_of (take 2 b) ≡ word (get_or b 0 0) (get_or b 1 0)
 two_read [] h = absurd (omega arith)
 two_read (x ∷ []) h = absurd (omega arith)
 two_read (x ∷ y ∷ b) h = omega arith
-
--- The two bytes of a number stored at the front.
-abbrev two_put : ℕ → List ℕ → List ℕ
-two_put n b = set (set b 0 (n / 256 % 256)) 1 (n % 256)
-
-two_set : (b : List ℕ) (n : ℕ) → 2 ≤ length b → two_put n b ≡ over (in_bytes 2 n) b
-two_set [] n h = absurd (omega arith)
-two_set (x ∷ []) n h = absurd (omega arith)
-two_set (x ∷ y ∷ b) n h = refl
 
 -- ---- Lists.
 behind : (n : ℕ) → 2 + n - 2 ≡ n
@@ -164,48 +156,43 @@ module _ (b : List ℕ) (full : length b ≡ jet_size) (f : Bytes b) where
   abbrev tests : ℕ → List ℕ → List Test
   tests address symbols = edit_tests (message (jet_of b)) address symbols
 
-  module _ {n address : ℕ} {symbols last : List ℕ} {r : Edited} (e : n ≡ (jet_of b).length) (h : (jet_of b).length ≤ 512)
-      (kept : length last ≡ length (mid_of 2 (2 + n - 2) b)) (p : Edits (mid_of 2 (2 + n - 2) b) address symbols r last) where
-    answers : r ≡ checked (tests address symbols) Refused Done
+  module _ {n address : ℕ} {symbols last : List ℕ} (r : Result Unit Refusal) (e : n ≡ (jet_of b).length) (h : (jet_of b).length ≤ 512)
+      (kept : length last ≡ length (mid_of 2 (2 + n - 2) b)) (p : Edits (mid_of 2 (2 + n - 2) b) address symbols (numbered r) last) where
+    answers : numbered r ≡ checked (tests address symbols) Err edit.done
     unfolding edited
     answers = p.answer ∙ ap (λ (l : List ℕ). edited l address symbols) (message_lent b e h)
 
     leaves : (t : Bool) → all (tests address symbols) ≡ t → put_mid 2 (2 + n - 2) b last ≡ pick t (jet_bytes (edited_jet (jet_of b) address symbols)) b
     leaves true t =
-        let done = answers ∙ checked_all (tests address symbols) Refused Done t in
+        let done = answers ∙ checked_all (tests address symbols) Err edit.done t in
         let new : last ≡ replaced (message (jet_of b)) address symbols = p.bytes ∙ rw (done, message_lent b e h) in
         message_left last e h kept ∙ ap (λ (l : List ℕ). jet_bytes (with_message (jet_of b) l)) new
     leaves false t =
-        let refused = answers ∙ (checked_refuses (tests address symbols) t).gives Refused Done in
+        let refused = answers ∙ (checked_refuses (tests address symbols) t).gives Err edit.done in
         let same : last ≡ mid_of 2 (2 + n - 2) b = p.bytes ∙ rw refused in
         ap (put_mid 2 (2 + n - 2) b) same ∙ put_same 2 (2 + n - 2) b
 
-    pub edited_left : {x : Edited} → r ≡ x → BecomesJet (tests address symbols) (edited_jet (jet_of b) address symbols) b (given_by x) (put_mid 2 (2 + n - 2) b last)
-    edited_left q =
+    pub edited_left : BecomesJet (tests address symbols) (edited_jet (jet_of b) address symbols) b (given_in r) (put_mid 2 (2 + n - 2) b last)
+    edited_left =
         record {
-          gives = ap given_by (sym q) ∙ p.first ∙ ap (λ (l : List ℕ). given (edit_tests l address symbols)) (message_lent b e h);
+          gives = given_numbered r ∙ p.first ∙ ap (λ (l : List ℕ). given (edit_tests l address symbols)) (message_lent b e h);
           jet = leaves (all (tests address symbols)) refl;
         }
 
   -- Another message, of any length.
-  pub laid_left : {s last : List ℕ} {r : Bool} → length s ≤ 512
-      → Lays (mid_of 2 (length (two_put (length s) b) - 2) (two_put (length s) b)) s r last
-      → put_mid 2 (length (two_put (length s) b) - 2) (two_put (length s) b) last ≡ jet_bytes (with_message (jet_of b) s)
-  laid_left {s} {last} {r} h p =
-      laid_behind 2 (in_bytes 2 (length s)) s b last r (two_put (length s) b) refl (omega arith) (two_set b (length s) (omega arith)) p
-      ∙ sym (message_bytes b full f s h)
+  pub laid_left : {s front last : List ℕ} → length s ≤ 512 → front ≡ in_bytes 2 (length s) → last ≡ s
+      → put_mid 2 (2 + length s - 2) (put_mid 0 2 b front) last ≡ jet_bytes (with_message (jet_of b) s)
+  laid_left {s} h e g =
+      rw (e, g)
+      (ap (λ (n : ℕ). in_bytes 2 (length s) ++ (s ++ drop n (drop 2 b))) (behind (length s))
+      ∙ over_over (in_bytes 2 (length s)) s b
+      ∙ sym (message_bytes b full f s h))
 
   -- Other parameters.
-  pub parameters_left : (q : List ℕ) {general last : List ℕ} {r : Bool} → length q ≡ 37 → Lays (mid_of general_place 11 b) (take 11 q) r general
+  pub parameters_left : (q : List ℕ) {general last : List ℕ} → length q ≡ 37 → general ≡ take 11 q
       → last ≡ counter_bytes (set_to (mid_of 11 (length q - 11) q)) → put_mid counter_place 34 (put_mid general_place 11 b general) last ≡ jet_bytes (with_parameters (jet_of b) q)
-  parameters_left q {general} {last} e p t =
+  parameters_left q {general} {last} e g t =
       let eleven : length (take 11 q) ≡ 11 = length-take-le 11 q (omega arith) in
-      let room : length (mid_of general_place 11 b) ≡ 11 = length-take-le 11 (drop general_place b) (simp length-drop (omega arith)) in
-      let g : general ≡ take 11 q =
-      p.buffer
-      ∙ ap (λ (t : Bool). over (pick t (take 11 q) []) (mid_of general_place 11 b)) (le-leb (length (take 11 q)) (length (mid_of general_place 11 b)) (omega arith))
-      ∙ ap (λ (l : List ℕ). take 11 q ++ l) (drop_of_length-le (mid_of general_place 11 b) {i = length (take 11 q)} (omega arith))
-      ∙ append-nil (take 11 q) in
       let before : length (take general_place b) ≡ general_place = length-take-le general_place b (omega arith) in
       let front : length (take general_place b ++ take 11 q) ≡ counter_place = simp length-append (omega arith) in
       ap (λ (l : List ℕ). put_mid counter_place 34 (put_mid general_place 11 b l) last) g

@@ -9,7 +9,8 @@ use borrow.Author.Tests.{ne_eqb}
 use lib.Dec.{eqb, leb}
 use lib.ListN.{length, take, drop, length-drop}
 use lib.Seq.{length-take-le}
-use Rattle.frame.specs.Ground.{pick, plain, both, all, given}
+use Rattle.frame.specs.Ground.{pick, both, all, given}
+use Rattle.frame.specs.Given.{given_of}
 use Rattle.frame.specs.declared.given.Given.{Given}
 use Rattle.frame.specs.Receive.{received}
 use Rattle.frame.specs.declared.receive.Received.{Received}
@@ -69,8 +70,8 @@ module _ (jet : ℕ) (m : List ℕ) (Q : List ℕ → Brought → Type 0) (same 
 
   handled_gives : (store s : List ℕ) (r : Received) → valid_store store ≡ true → received s ≡ r → Sound s r → Gives (brought_in jet store s r) (handled (printer_of m) store s r)
   handled_gives store s Partial w e h = same
-  handled_gives store s (Refused number consumed) w e h = refused_gives (plain number) consumed nothing h
-  handled_gives store s (Misfit number i n consumed) w e h = refused_gives (plain number) consumed nothing h
+  handled_gives store s (Refused why consumed) w e h = refused_gives (given_of why) consumed nothing h
+  handled_gives store s (Misfit why i n consumed) w e h = refused_gives (given_of why) consumed nothing h
   handled_gives store s Enquiry w e h = obeyed_gives (enquire (printer_of m)) 1 nothing refl (λ _. leads _ _ stays)
   handled_gives store s (Update n consumed) w e h =
       let text = take n (drop 1 s) in

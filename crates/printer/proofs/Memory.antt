@@ -1,18 +1,19 @@
 -- The bytes of a state: what the part of a jet is, and what the whole becomes when that part is written anew.
 use Prim.Native.Nat.{ℕ, zero, suc, ◌+◌, ◌-◌, ◌*◌, ◌≤◌, ◌<◌}
 use mathlib.Core.Bool.{Bool, true, false}
-use mathlib.Core.List.{List, [], ◌∷◌, ◌++◌, append_assoc, append-nil, map}
+use mathlib.Core.List.{List, [], ◌∷◌, ◌++◌, append_assoc, map}
 use mathlib.Core.Path.{◌≡◌, refl, sym, ◌∙◌, ap, ap₂}
 use native.Mathlib.Nat.{mul-suc, not-suc-le-zero, le_of_suc-le-suc}
 use native.Mathlib.Omega.{arith}
 use borrow.Rule.Slice.PartMut.{mid_of, put_mid, mid_len}
-use lib.ListN.{length, get_or, replicate, length-replicate, replicate-append-replicate, set, take, drop, length-drop, length-take, take-append-drop, drop_of_length-le}
-use lib.Seq.{drop-drop, take-add, set_at, append_snoc, take_at, drop_at}
+use lib.ListN.{length, get_or, replicate, replicate-append-replicate, set, take, drop, length-drop, length-take, take-append-drop}
+use lib.Seq.{drop-drop, take-add, take_at, drop_at}
+use Rattle.std.specs.List.{list_all, range_with_len}
+use Rattle.std.specs.Prelude.{◌&&◌}
 use Rattle.frame.specs.Ground.{both, joined, every}
-use Rattle.frame.proofs.Ground.{drop_next}
 use Rattle.printer.specs.Counter.{counter_of}
-use Rattle.printer.specs.Jet.{Jet, has_jet, jet_size, jet_of, jet_bytes}
-use Rattle.printer.specs.State.{state_size, jets_place, jet_at, with_jet, with_jets, with_clock, with_date_change, jets_of, jet_place, empty_jet, fresh_printer, front_bytes, printer_of, bytes_of}
+use Rattle.printer.specs.Jet.{Jet, jet_size, jet_of, jet_bytes}
+use Rattle.printer.specs.State.{state_size, jets_place, jet_at, with_jet, with_jets, with_clock, with_date_change, clock_bytes, jets_of, jet_place, empty_jet, fresh_printer, front_bytes, printer_of, bytes_of}
 use Rattle.calendar.specs.declared.clock.Clock.{Clock}
 use Rattle.calendar.specs.declared.date_change.TimeOfDay.{TimeOfDay}
 use Rattle.printer.proofs.Numbers.{Bytes, bytes_take, bytes_drop}
@@ -97,15 +98,13 @@ state_back m full f =
     ∙ take-append-drop jets_place m
 
 -- Another moment in its place.
-pub clock_put : (m : List ℕ) (c : Clock) → length m ≡ state_size → Bytes m
-    → set (set (set (set (set (set m 1 c.second) 2 c.minute) 3 c.hour) 4 c.date.day) 5 c.date.month) 6 c.date.year
-    ≡ bytes_of (with_clock (printer_of m) c)
+pub clock_put : (m : List ℕ) (c : Clock) {l : List ℕ} → length m ≡ state_size → Bytes m → l ≡ clock_bytes c
+    → put_mid 1 6 m l ≡ bytes_of (with_clock (printer_of m) c)
 unfolding printer_of bytes_of
-clock_put m c full f = go (head_of m (omega arith)) (jets_back 4 (drop jets_place m) (rw length-drop (omega arith)) (bytes_drop jets_place m f))
+clock_put m c full f q = ap (put_mid 1 6 m) q ∙ go (head_of m (omega arith)) (jets_back 4 (drop jets_place m) (rw length-drop (omega arith)) (bytes_drop jets_place m f))
   where
     go : {m : List ℕ} → Headed m → joined (map jet_bytes (jets_of 4 (drop jets_place m))) ≡ drop jets_place m
-        → set (set (set (set (set (set m 1 c.second) 2 c.minute) 3 c.hour) 4 c.date.day) 5 c.date.month) 6 c.date.year
-        ≡ bytes_of (with_clock (printer_of m) c)
+        → put_mid 1 6 m (clock_bytes c) ≡ bytes_of (with_clock (printer_of m) c)
     go (headed a _ _ _ _ _ _ h i r) e =
         ap (λ (l : List ℕ). a ∷ c.second ∷ c.minute ∷ c.hour ∷ c.date.day ∷ c.date.month ∷ c.date.year ∷ h ∷ i ∷ l) (sym e)
 
@@ -152,60 +151,17 @@ zero_jets (suc k) =
     ∙ ap₂ (λ (l m : List ℕ). jet_of l ∷ jets_of k m) (take_at first rest jet_size refl) (drop_at first rest jet_size refl)
     ∙ ap₂ (λ (j : Jet) (js : List Jet). j ∷ js) zero_jet (zero_jets k)
 
-pub zeros_next : (before : List ℕ) (i : ℕ) → i < length before → set (replicate i 0 ++ drop i before) i 0 ≡ replicate (i + 1) 0 ++ drop (i + 1) before
-zeros_next before i h =
-    ap (λ (l : List ℕ). set (replicate i 0 ++ l) i 0) (drop_next before i h)
-    ∙ set_at (replicate i 0) (get_or before i 0) (drop (i + 1) before) 0 i (length-replicate i 0)
-    ∙ sym (append_snoc (replicate i 0) 0 (drop (i + 1) before))
-    ∙ ap (λ (l : List ℕ). l ++ drop (i + 1) before) (replicate-append-replicate i 1 0)
-
-pub zeros_end : (before : List ℕ) (i n : ℕ) → length before ≡ n → i ≡ n → replicate i 0 ++ drop i before ≡ replicate n 0
-zeros_end before i n full e =
-    ap (λ (l : List ℕ). replicate i 0 ++ l) (drop_of_length-le before {i = i} (omega arith))
-    ∙ append-nil (replicate i 0)
-    ∙ ap (λ (k : ℕ). replicate k 0) e
-
 pub zeros_fresh : (model : ℕ) (c : Clock) {m : List ℕ} → m ≡ replicate state_size 0 → with_clock (printer_of (set m 0 model)) c ≡ fresh_printer model c
 unfolding printer_of
 zeros_fresh model c e =
     ap (λ (l : List ℕ). with_clock (printer_of (set l 0 model)) c) e
     ∙ ap (with_jets (fresh_printer model c)) (zero_jets 4)
 
--- ---- A test of one jet after the other, before the n-th of which all have passed: what is left of the row gives the answer.
-pub record Walk (f : ℕ → Jet → Bool) (m : List ℕ) (n at : ℕ) : Type 0 where
-  pub least : 1 ≤ n
-  pub most : n ≤ 5
-  pub place : at ≡ jet_place n
-  pub same : every f 1 (printer_of m).jets ≡ every f n (jets_of (5 - n) (drop at m))
+-- ---- A test of one jet after the other.
+and_both : (a b : Bool) → (a && b) ≡ both a b
+and_both true b = refl
+and_both false b = refl
 
-further : (n at : ℕ) → at ≡ jet_place n → 1 ≤ n → at + jet_size ≡ jet_place (n + 1)
-further n at e h = omega arith
-
-pub walk_starts : (f : ℕ → Jet → Bool) (m : List ℕ) → Walk f m 1 jets_place
+pub four_asked : (f : ℕ → Jet → Bool) (m : List ℕ) → list_all (λ (n : ℕ). f n (jet_at (printer_of m) n)) (range_with_len 1 4) ≡ every f 1 (printer_of m).jets
 unfolding printer_of
-walk_starts f m = record { least = omega arith; most = omega arith; place = refl; same = refl }
-
-module _ (f : ℕ → Jet → Bool) (m : List ℕ) {n at : ℕ} (w : Walk f m n at) where
-  walk_test : n ≤ 4 → every f 1 (printer_of m).jets
-      ≡ both (f n (jet_of (mid_of at (at + jet_size - at) m))) (every f (n + 1) (jets_of (5 - (n + 1)) (drop (at + jet_size) m)))
-  walk_test h =
-      let one : 5 - n ≡ suc (5 - (n + 1)) = omega arith in
-      w.same
-      ∙ ap (λ (k : ℕ). every f n (jets_of k (drop at m))) one
-      ∙ rw (behind at jet_size, drop-drop jet_size at m) refl
-
-  pub walk_fails : n ≤ 4 → f n (jet_of (mid_of at (at + jet_size - at) m)) ≡ false → every f 1 (printer_of m).jets ≡ false
-  walk_fails h e = walk_test h ∙ rw e refl
-
-  pub walk_goes : n ≤ 4 → f n (jet_of (mid_of at (at + jet_size - at) m)) ≡ true → Walk f m (n + 1) (at + jet_size)
-  walk_goes h e = record { least = omega arith; most = omega arith; place = further n at w.place w.least; same = walk_test h ∙ rw e refl }
-
-  pub walk_ends : 4 < n → every f 1 (printer_of m).jets ≡ true
-  walk_ends h =
-      let none : 5 - n ≡ 0 = omega arith in
-      w.same ∙ ap (λ (k : ℕ). every f n (jets_of k (drop at m))) none
-
--- What a test of the jet of a number gave, where another gave whether the printer has that jet.
-pub jet_tested : (g : Bool → Jet → Bool) (model : ℕ) (m : List ℕ) (n at : ℕ) {k : ℕ} {b r : Bool} → k ≡ n → b ≡ has_jet model k
-    → r ≡ g b (jet_of (mid_of at (at + jet_size - at) m)) → g (has_jet model n) (jet_of (mid_of at (at + jet_size - at) m)) ≡ r
-jet_tested g model m n at e h q = rw (← e, ← h) (sym q)
+four_asked f m = simp and_both

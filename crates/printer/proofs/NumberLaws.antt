@@ -1,17 +1,20 @@
 -- The tests of every frame and call stand in the order of their numbers, by computation; what the box says is the first that fails.
-use Prim.Native.Nat.{ℕ}
+use Prim.Native.Nat.{ℕ, ◌+◌}
 use mathlib.Core.Bool.{Bool, true, false, not}
 use mathlib.Core.List.{List, [], ◌∷◌, ◌++◌, append-nil}
 use mathlib.Core.Path.{◌≡◌, refl, sym, ◌∙◌, ap}
-use lib.ListN.{take, drop}
+use lib.Dec.{eqb, ltb}
+use lib.ListN.{length, get_or, take, drop}
 use Rattle.frame.specs.Ground.{Test, all, checked, given, pick, plain, test}
 use Rattle.frame.specs.declared.given.Given.{Given}
 use Rattle.frame.specs.Numbers.{in_order}
 use Rattle.frame.specs.NumberLaws.{frame_tests, is_frame, not_whole, receive_tests, too_long}
-use Rattle.frame.specs.Receive.{number, received}
+use Rattle.frame.specs.Given.{given_of}
+use Rattle.frame.specs.Wire.{around, check, enquiry, fits, head_size, listed, longest_data, longest_update, update_closes, update_marks, update_opens, size_of}
+use Rattle.frame.specs.Receive.{data_length, framed, judged, number, received, run, text_space, updated}
 use Rattle.frame.specs.declared.receive.Received.{Received}
 use Rattle.frame.specs.declared.receive.Received.TheVariants.{Partial, Refused, Misfit, Enquiry, Update, Frame}
-use Rattle.frame.proofs.Ground.{checked_all, checked_append, checked_map, plain_given}
+use Rattle.frame.proofs.Ground.{checked_all, checked_append, checked_map, pick_case, plain_given, unless_case}
 use Rattle.frame.proofs.Numbers.{first_given}
 use Rattle.frame.proofs.NumberLaws.{in_order as frame-order, plain_received, received_first}
 use Rattle.printer.specs.Order.{Order}
@@ -55,16 +58,45 @@ then_asked s ts e =
     let same : Given → Given = λ g. g in
     sym (checked_append (receive_tests s) ts same (plain 0) ∙ checked_all (receive_tests s) same (given ts) held)
 
+-- What the receiver refuses has no place.
+abbrev Placeless : Received → Type 0
+Placeless (Refused why c) = plain (given_of why).number ≡ given_of why
+Placeless (Misfit why i n c) = plain (given_of why).number ≡ given_of why
+Placeless Partial = Unit {0}
+Placeless Enquiry = Unit {0}
+Placeless (Update n c) = Unit {0}
+Placeless (Frame i n c) = Unit {0}
+
+judged_placeless : (i n : ℕ) → Placeless (judged i n)
+unfolding judged
+judged_placeless i n = unless_case Placeless (listed (size_of i)) _ _ refl (unless_case Placeless (fits (size_of i) n) _ _ refl tt)
+
+placeless_received : (s : List ℕ) → Placeless (received s)
+unfolding received updated framed
+placeless_received s =
+    let n = data_length s in
+    pick_case Placeless (eqb (length s) 0) _ _ (λ _. tt) (λ _.
+    pick_case Placeless (eqb (get_or s 0 0) enquiry) _ _ (λ _. tt) (λ _.
+    pick_case Placeless (eqb (get_or s 0 0) update_opens) _ _
+    (λ _.
+    pick_case Placeless (ltb (run update_closes (text_space s)) (length (text_space s))) _ _ (λ _. tt) (λ _.
+    pick_case Placeless (ltb (length s) (longest_update + update_marks)) _ _ (λ _. tt) (λ _. refl)))
+    (λ _.
+    pick_case Placeless (ltb (length s) head_size) _ _ (λ _. tt) (λ _.
+    pick_case Placeless (ltb longest_data n) _ _ (λ _. refl) (λ _.
+    pick_case Placeless (ltb (length s) (n + around)) _ _ (λ _. tt) (λ _.
+    unless_case Placeless (eqb (check (take (n + head_size) s)) (get_or s (n + head_size) 0)) _ _ refl (judged_placeless (get_or s 0 0) n)))))))
+
 -- So what the box says of what was received is the receiver's number, or what the first test of what is asked that fails gives.
-handled_given : (p : Printer) (store s : List ℕ) (r : Received) → plain (number r) ≡ given (receive_tests s)
+handled_given : (p : Printer) (store s : List ℕ) (r : Received) → Placeless r → plain (number r) ≡ given (receive_tests s)
     → given_by (handled p store s r) ≡ given (receive_tests s ++ asked_tests p store s r)
 unfolding obeyed
-handled_given p store s Partial e = e ∙ nothing_asked s
-handled_given p store s (Refused k c) e = e ∙ nothing_asked s
-handled_given p store s (Misfit k i n c) e = e ∙ nothing_asked s
-handled_given p store s Enquiry e = e ∙ nothing_asked s
-handled_given p store s (Update n c) e = obeyed_given p (update_fields p (take n (drop 1 s))) c ∙ then_asked s _ e
-handled_given p store s (Frame i n c) e = obeyed_given p (order p store i (take n (drop 3 s))) c ∙ then_asked s _ e
+handled_given p store s Partial w e = e ∙ nothing_asked s
+handled_given p store s (Refused why c) w e = sym w ∙ e ∙ nothing_asked s
+handled_given p store s (Misfit why i n c) w e = sym w ∙ e ∙ nothing_asked s
+handled_given p store s Enquiry w e = e ∙ nothing_asked s
+handled_given p store s (Update n c) w e = obeyed_given p (update_fields p (take n (drop 1 s))) c ∙ then_asked s _ e
+handled_given p store s (Frame i n c) w e = obeyed_given p (order p store i (take n (drop 3 s))) c ∙ then_asked s _ e
 
 outcome_given : (m : List ℕ) (h : Handed) → given_by (outcome m h) ≡ given (outcome_tests m h)
 unfolding outcome
@@ -74,7 +106,7 @@ outcome_given m h =
     let s = h.bytes in
     let same : Given → Given = λ g. g in
     checked_map given_by (handing_tests m h) (λ (g : Given). silent p g.number) (handled p store s (received s))
-    ∙ ap (checked (handing_tests m h) same) (handled_given p store s (received s) (ap plain (received_first s) ∙ plain_given (receive_tests s) (plain_received s)))
+    ∙ ap (checked (handing_tests m h) same) (handled_given p store s (received s) (placeless_received s) (ap plain (received_first s) ∙ plain_given (receive_tests s) (plain_received s)))
     ∙ sym (checked_append (handing_tests m h) (receive_tests s ++ asked_tests p store s (received s)) same (plain 0))
 
 -- All these tests are in order, by computation, whether a frame was received or not and whatever it asks.
@@ -129,9 +161,9 @@ calls_give_first =
     record {
       byte = λ m h e. first_given (byte_tests m h) (given_by (single m h)) refl (byte_given m h e);
       receive = λ m h. first_given (outcome_tests m h) (given_by (outcome m h)) (asked_ordered m h (received h.bytes)) (outcome_given m h);
-      fresh = λ m model clock r m' p. first_given _ (plain r) (numbers_in_order.fresh m model clock) p.gives;
-      clock = λ m clock r m' p. first_given _ (plain r) (numbers_in_order.clock m clock) p.gives;
-      date_change = λ m time r m' p. first_given _ (plain r) (numbers_in_order.date_change m time) p.gives;
-      tick = λ m r m' p. first_given _ (plain r) (numbers_in_order.tick m) p.gives;
-      show = λ store current n refused r p. first_given _ (plain refused) (numbers_in_order.show store n) p.gives;
+      fresh = λ m model clock r m' p. first_given _ r (numbers_in_order.fresh m model clock) p.gives;
+      clock = λ m clock r m' p. first_given _ r (numbers_in_order.clock m clock) p.gives;
+      date_change = λ m time r m' p. first_given _ r (numbers_in_order.date_change m time) p.gives;
+      tick = λ m r m' p. first_given _ r (numbers_in_order.tick m) p.gives;
+      show = λ store current n g r p. first_given _ g (numbers_in_order.show store n) p.gives;
     }

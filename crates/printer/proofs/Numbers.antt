@@ -1,17 +1,20 @@
 -- The laws of numbers in bytes and in digits: each way of writing undoes the other, and how large a number of so many bytes or digits can be.
 use Prim.Native.Nat.{ℕ, zero, suc, ◌+◌, ◌*◌, ◌-◌, ◌/◌, ◌%◌, ◌^◌, ◌≤◌, ◌<◌}
-use mathlib.Core.Bool.{Bool, true}
+use mathlib.Core.Bool.{Bool, true, false}
 use mathlib.Core.List.{List, [], ◌∷◌, ◌++◌, append_assoc, append-nil}
 use mathlib.Core.Path.{◌≡◌, refl, sym, ◌∙◌, ap}
 use native.Mathlib.Nat.{add-zero, add-suc, suc-add, zero-add, div-add-mod', div-eq_of_lt, div-lt_iff_lt-mul, mod-eq_of_lt, mul-add-div_right, mul-add-mod_self_right, mul_assoc, not-suc-le-zero, pow-le-pow_right, pow-suc, pow-succ'}
 use native.Mathlib.Numerals.{add-one}
 use native.Mathlib.Omega.{arith}
-use mir.Syntax.{w8}
+use mir.Syntax.{w8, w32}
 use mir.Val.{Fits}
-use lib.ListN.{length, get_or, take, drop, length-append, length-drop}
-use lib.Seq.{drop-drop, get_or-drop, take-nil, take-suc}
+use lib.ListN.{length, get_or, take, drop, length-append}
+use lib.Seq.{drop-drop, get_or-drop, take-nil}
+use Rattle.std.specs.Int.{to_be_bytes}
+use Rattle.std.specs.List.{list_all}
+use Rattle.std.specs.Prelude.{◌&&◌}
 use Rattle.frame.specs.Ground.{both}
-use Rattle.frame.proofs.Ground.{both_true, true_both, within_true, drop_next, three_at}
+use Rattle.frame.proofs.Ground.{both_true, true_both, within_true, drop_next}
 use Rattle.printer.specs.Number.{all_digits, in_bytes, is_digit, number_from, number_of, value, value_from}
 
 -- ---- Numbers in bytes.
@@ -78,48 +81,33 @@ number_fits k s h f =
     let wider : 256 ^ length s ≤ 256 ^ k = pow-le-pow_right (omega arith) h in
     omega (arith, number_small s f)
 
-pub two_fit : (s : List ℕ) → length s ≤ 2 → Bytes s → number_of s < 65536
-two_fit s h f = number_fits 2 s h f
-
 pub three_fit : (s : List ℕ) → length s ≤ 3 → Bytes s → number_of s < 16777216
 three_fit s h f = number_fits 3 s h f
 
-pub four_fit : (s : List ℕ) → length s ≤ 4 → Bytes s → number_of s < 4294967296
-four_fit s h f = number_fits 4 s h f
-
--- ---- Parts of a list.
--- One more byte of a part of a list.
-pub part_next : (s : List ℕ) (i : ℕ) {m k j : ℕ} → i < length s → m ≡ suc k → j ≡ i + 1 → take m (drop i s) ≡ get_or s i 0 ∷ take k (drop j s)
-part_next s i h e f = rw (e, f, drop_next s i h)
-
--- One more at its end.
-pub part_more : (s : List ℕ) (i k : ℕ) → i + k < length s → take (suc k) (drop i s) ≡ take k (drop i s) ++ (get_or s (i + k) 0 ∷ [])
-part_more s i k h =
-    take-suc (drop i s) k 0 (simp length-drop (omega arith))
-    ∙ ap (λ (b : ℕ). take k (drop i s) ++ (b ∷ [])) (get_or-drop i s k 0)
-
-pub number_three : (s : List ℕ) (i : ℕ) → i + 3 ≤ length s → (get_or s i 0 * 256 + get_or s (i + 1) 0) * 256 + get_or s (i + 2) 0 ≡ number_of (take 3 (drop i s))
-number_three s i h = rw (three_at s i (omega arith), zero-add)
-
-pub number_four : (s : List ℕ) (i : ℕ) → i + 4 ≤ length s → number_of (take 3 (drop i s)) * 256 + get_or s (i + 3) 0 ≡ number_of (take 4 (drop i s))
-number_four s i h = sym (ap number_of (part_more s i 3 (omega arith)) ∙ number_snoc 0 (take 3 (drop i s)) (get_or s (i + 3) 0))
+pub be_bytes : (n : ℕ) → to_be_bytes w32 n ≡ in_bytes 4 n
+be_bytes n =
+    let a : n / 256 ^ 3 % 256 ≡ n / 256 / 256 / 256 % 256 = omega arith in
+    let b : n / 256 ^ 2 % 256 ≡ n / 256 / 256 % 256 = omega arith in
+    let c : n / 256 ^ 1 % 256 ≡ n / 256 % 256 = omega arith in
+    cc
 
 -- ---- Numbers in digits.
-pub value_on : (q : List ℕ) (n from i count : ℕ) {w : ℕ} → i < count → from + i < length q → w ≡ get_or q (from + i) 0 - 0x30
-    → value_from n (take (count - i) (drop (from + i) q)) ≡ value_from (n * 10 + w) (take (count - (i + 1)) (drop (from + (i + 1)) q))
-value_on q n from i count h g e =
-    ap (value_from n) (part_next q (from + i) {m = count - i} {k = count - (i + 1)} {j = from + (i + 1)} g (omega arith) (omega arith)) ∙ rw e
+pub all_digits_listed : (s : List ℕ) → list_all is_digit s ≡ all_digits s
+all_digits_listed [] = refl
+all_digits_listed (b ∷ s) = go (is_digit b) (all_digits_listed s)
+  where
+    go : (t : Bool) → list_all is_digit s ≡ all_digits s → (t && list_all is_digit s) ≡ both t (all_digits s)
+    go true e = e
+    go false e = refl
 
--- One more byte of a part that is to be of digits.
-pub digits_on : (q : List ℕ) (i : ℕ) {m k j : ℕ} {t : Bool} → i < length q → m ≡ suc k → j ≡ i + 1 → is_digit (get_or q i 0) ≡ t
-    → all_digits (take m (drop i q)) ≡ both t (all_digits (take k (drop j q)))
-digits_on q i h e f g = ap all_digits (part_next q i h e f) ∙ rw g
+-- One more digit of a row.
+pub value_on : (s : List ℕ) (n i : ℕ) {w : ℕ} → i < length s → w ≡ get_or s i 0 - 0x30
+    → value_from n (drop i s) ≡ value_from (n * 10 + w) (drop (i + 1) s)
+value_on s n i h e = ap (value_from n) (drop_next s i h) ∙ rw e
 
-pub digit_next : (q : List ℕ) (from i count : ℕ) → i < count → from + i < length q → all_digits (take (count - i) (drop (from + i) q)) ≡ true
-    → (is_digit (get_or q (from + i) 0) ≡ true) × (all_digits (take (count - (i + 1)) (drop (from + (i + 1)) q)) ≡ true)
-digit_next q from i count h g e =
-    both_true _ _
-    (sym (digits_on q (from + i) {m = count - i} {k = count - (i + 1)} {j = from + (i + 1)} g (omega arith) (omega arith) refl) ∙ e)
+pub digit_next : (s : List ℕ) (i : ℕ) → i < length s → all_digits (drop i s) ≡ true
+    → (is_digit (get_or s i 0) ≡ true) × (all_digits (drop (i + 1) s) ≡ true)
+digit_next s i h e = both_true _ _ (ap all_digits (sym (drop_next s i h)) ∙ e)
 
 pub is_digit_true : (b : ℕ) → is_digit b ≡ true → (0x30 ≤ b) × (b ≤ 0x39)
 unfolding is_digit

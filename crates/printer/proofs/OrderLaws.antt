@@ -6,6 +6,7 @@ use mathlib.Core.Bool.{Bool, true, false}
 use mathlib.Core.List.{List, [], ◌∷◌}
 use mathlib.Core.Path.{◌≡◌, refl, sym, ap, ◌∙◌}
 use native.Mathlib.Omega.{arith}
+use Rattle.std.proofs.Common.{Err}
 use borrow.Author.Tests.{eqb-true, leb-true, ltb-false}
 use lib.Dec.{eqb, leb, ltb}
 use lib.ListN.{length, take, drop, length-set}
@@ -15,9 +16,9 @@ use Rattle.frame.proofs.Ground.{never, both_true, true_both, pick_case, checked_
 use Rattle.content.specs.Byte.{is_character, all_characters}
 use Rattle.content.specs.Content.{is_content}
 use Rattle.content.specs.Machine.{start}
+use Rattle.content.specs.Edit as edit
 use Rattle.content.specs.Edit.{edit_tests, edited, replaced}
 use Rattle.content.specs.Update.{laid}
-use Rattle.content.specs.declared.edit.Edited.TheVariants.{Done, Refused}
 use Rattle.content.proofs.ChangeLaws.{edit_stays_content, update_stays_content}
 use Rattle.printer.specs.Counter.{Counter}
 use Rattle.printer.specs.Jet.{Jet, has_jet, has_message, message, valid_jet, good_parameters, counted_jet}
@@ -166,14 +167,14 @@ both_tell p d t =
 pub record EditTests (p : Printer) (d : List ℕ) : Type 0 where
   pub there : has_jet p.model (jet_number d) ≡ true
   pub some : has_message (jet_in p d) ≡ true
-  pub edits : edited (message (jet_in p d)) (address_in d) (drop 3 d) ≡ Done
+  pub edits : edited (message (jet_in p d)) (address_in d) (drop 3 d) ≡ edit.done
 
 pub edit_tells : (p : Printer) (d : List ℕ) → all (edit_message p d).tests ≡ true → EditTests p d
 unfolding edit_message edited
 edit_tells p d t =
     let a = both_true (has_jet p.model (jet_number d)) _ t in
     let b = both_true (has_message (jet_in p d)) _ a.1 in
-    record { there = a.0; some = b.0; edits = checked_all (edit_tests (message (jet_in p d)) (address_in d) (drop 3 d)) Refused Done b.1 }
+    record { there = a.0; some = b.0; edits = checked_all (edit_tests (message (jet_in p d)) (address_in d) (drop 3 d)) Err edit.done b.1 }
 
 pub record SelectTests (p : Printer) (store d : List ℕ) : Type 0 where
   pub there : has_jet p.model (jet_number d) ≡ true

@@ -8,8 +8,9 @@ use native.Mathlib.Omega.{arith}
 use borrow.Author.Tests.{leb-true}
 use lib.Dec.{leb}
 use lib.ListN.{take, drop}
-use Rattle.frame.specs.Ground.{Test, checked, plain}
+use Rattle.frame.specs.Ground.{Test, checked}
 use Rattle.frame.specs.declared.given.Given.{Given}
+use Rattle.frame.specs.Given.{given_of}
 use Rattle.frame.specs.Receive.{received, consumed}
 use Rattle.frame.specs.declared.receive.Received.{Received}
 use Rattle.frame.specs.declared.receive.Received.TheVariants.{Partial, Refused, Misfit, Enquiry, Update, Frame}
@@ -43,8 +44,8 @@ obeyed_kind p o c e = tests_kind p o c o.tests e
 
 handled_kind : (p : Printer) (store s : List ℕ) (r : Received) → Sound s r → Kind p (consumed r) (handled p store s r)
 handled_kind p store s Partial h = silence 3 (omega arith) (omega arith)
-handled_kind p store s (Refused k c) h = refused (plain k) h
-handled_kind p store s (Misfit k i n c) h = refused (plain k) h
+handled_kind p store s (Refused why c) h = refused (given_of why) h
+handled_kind p store s (Misfit why i n c) h = refused (given_of why) h
 handled_kind p store s Enquiry h = obeyed_kind p (enquire p) 1 refl
 handled_kind p store s (Update n c) h = obeyed_kind p (update_fields p (take n (drop 1 s))) c (fields_numbered p (take n (drop 1 s)))
 handled_kind p store s (Frame i n c) h = obeyed_kind p (order p store i (take n (drop 3 s))) c (orders_numbered p store i (take n (drop 3 s)))

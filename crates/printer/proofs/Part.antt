@@ -4,6 +4,10 @@ use mathlib.Core.Bool.{Bool, true, false}
 use mathlib.Core.List.{List, ◌∷◌}
 use mathlib.Core.Path.{◌≡◌, refl, sym, ◌∙◌, ap}
 use native.Mathlib.Omega.{arith}
+use Rattle.std.proofs.Common.{Option, None, Some, Result, Ok}
+use Rattle.std.specs.Prelude.{ok_or}
+use Rattle.frame.specs.declared.given.Refusal.{Refusal}
+use Rattle.frame.specs.declared.given.Refusal.TheVariants.{NoSuchJet}
 use borrow.Rule.Slice.PartMut.{mid_of, put_mid, put_same}
 use lib.ListN.{length}
 use Rattle.frame.specs.Ground.{Test, all, pick, test}
@@ -48,26 +52,34 @@ module _ {m : List ℕ} {n at : ℕ} (s : Stands m n at) where
       jet_put m n (g (jet_at (printer_of m) n)) s.full s.known s.place s.least s.most (e ∙ ap (λ (j : Jet). jet_bytes (g j)) part_jet)
 
 -- ---- The jet that the first data byte names.
-module _ {p : Printer} {d : List ℕ} {at : ℕ} (e : Places p d at) where
-  pub not_named : at ≡ 0 → on_printer p d ≡ false
-  not_named z = go (on_printer p d) (sym z ∙ e.place)
+module _ {p : Printer} {d : List ℕ} {r : Option ℕ} (e : Places p d r) where
+  pub named : {at : ℕ} → r ≡ Some at → (on_printer p d ≡ true) × (at ≡ jet_place (jet_number d))
+  named {at} n = go (on_printer p d) (sym n ∙ e.place)
     where
-      go : (b : Bool) → 0 ≡ pick b (jet_place (jet_number d)) 0 → b ≡ false
-      go true f = absurd (omega arith)
-      go false f = refl
+      no_place : ◌≡◌ {A = Option ℕ} (Some at) None → ⊥
+      no_place q = cc
 
-  pub named : (at ≡ 0 → ⊥) → on_printer p d ≡ true
-  named n = go (on_printer p d) e.place
-    where
-      go : (b : Bool) → at ≡ pick b (jet_place (jet_number d)) 0 → b ≡ true
-      go true f = refl
-      go false f = absurd (n f)
+      go : (b : Bool) → Some at ≡ pick b (Some (jet_place (jet_number d))) None → (b ≡ true) × (at ≡ jet_place (jet_number d))
+      go true f = (refl, cc)
+      go false f = absurd (no_place f)
 
-pub stands : {m d : List ℕ} {at : ℕ} → Places (printer_of m) d at → (at ≡ 0 → ⊥) → length m ≡ state_size → Bytes m → Stands m (jet_number d) at
-stands {m} {d} e n full known =
-    let on : on_printer (printer_of m) d ≡ true = named e n in
-    let row = on_row (printer_of m).model (jet_number d) on in
-    record { full = full; known = known; place = e.place ∙ rw on; least = row.0; most = row.1 }
+-- The code goes on where there is one.
+some_place : {r : Option ℕ} {at : ℕ} → ok_or r NoSuchJet ≡ Ok at → r ≡ Some at
+some_place {r} {at} e = go r e
+  where
+    go : (r : Option ℕ) → ok_or r NoSuchJet ≡ Ok at → r ≡ Some at
+    go None e = cc
+    go (Some i) e = cc
+
+pub on_there : {p : Printer} {d : List ℕ} {r : Option ℕ} {x : Result ℕ Refusal} {at : ℕ} → Places p d r → x ≡ ok_or r NoSuchJet → x ≡ Ok at → on_printer p d ≡ true
+on_there e o q = (named e (some_place (sym o ∙ q))).0
+
+pub stands : {m d : List ℕ} {r : Option ℕ} {x : Result ℕ Refusal} {at : ℕ} → Places (printer_of m) d r → x ≡ ok_or r NoSuchJet → x ≡ Ok at
+    → length m ≡ state_size → Bytes m → Stands m (jet_number d) at
+stands {m} {d} e o q full known =
+    let on = named e (some_place (sym o ∙ q)) in
+    let row = on_row (printer_of m).model (jet_number d) on.0 in
+    record { full = full; known = known; place = on.1; least = row.0; most = row.1 }
 
 -- What becomes of that jet's part is what an order on it makes of the state, once the jet is on the printer.
 module _ (m d : List ℕ) {at : ℕ} {r : Given} {ts : List Test} {j : Jet} {last : List ℕ} (s : Stands m (jet_number d) at) (on : on_printer (printer_of m) d ≡ true)

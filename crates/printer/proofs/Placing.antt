@@ -5,6 +5,7 @@ use mathlib.Core.Bool.{Bool, true, false, not}
 use mathlib.Core.List.{List, [], ◌∷◌, ◌++◌}
 use mathlib.Core.Path.{◌≡◌, refl, sym, ◌∙◌, ap, subst}
 use native.Mathlib.Omega.{arith}
+use Rattle.std.proofs.Common.{Option, None, Some}
 use borrow.Author.Tests.{eqb-true}
 use lib.Dec.{eqb, ltb}
 use lib.ListN.{length, take, drop}
@@ -12,18 +13,15 @@ use lib.Seq.{drop-drop, take-append_seam}
 use Rattle.frame.specs.Ground.{Test, checked, given, has, placed, plain, test, test_at}
 use Rattle.frame.specs.Numbers.{has_place, with_place}
 use Rattle.frame.specs.declared.given.Given.{Given}
-use Rattle.frame.specs.declared.given.Where.{Where}
-use Rattle.frame.specs.declared.given.Where.TheVariants.{Nowhere, At}
 use Rattle.frame.proofs.Ground.{both_true, every_test, never, unless_case, unless_tells}
 use Rattle.frame.proofs.Laws as frame-laws
 use Rattle.content.specs.Byte.{all_characters, characters_in_front}
-use Rattle.content.specs.Content.{content_test, content_tests, is_content, tested, verdict, wrong_place}
+use Rattle.content.specs.Content.{content_test, content_tests, is_content, good, tested, verdict, wrong_place}
 use Rattle.content.specs.Edit.{addressed, astray, edit_tests, edited}
 use Rattle.content.specs.Machine.{start}
 use Rattle.content.specs.PlaceLaws.{FirstAstray, FirstOther, TenAt}
 use Rattle.content.specs.Position.{marks}
 use Rattle.content.specs.Update.{update_tests}
-use Rattle.content.specs.declared.test.Verdict.TheVariants.{Good}
 use Rattle.content.proofs.PlaceLaws.{edit_astray, first_other, tested_there}
 use Rattle.printer.specs.Change.{address_in, edit_message, head_positions, parameters_in, set_both, set_message, set_parameters, update_fields}
 use Rattle.printer.specs.Demands.{FrameTellsWhere, NowhereElse, TellsWhere, UpdateTellsWhere, content_in}
@@ -42,27 +40,27 @@ use Rattle.printer.proofs.PrintLaws.{content_good}
 use Rattle.printer.proofs.OrderLaws.{obeyed_given, order_case, printer_order_case}
 
 -- ---- No other number has a place.
-no_place : (w : Where) → has_place w ≡ false → w ≡ Nowhere
-no_place Nowhere e = refl
-no_place (At i) e = never (sym e)
+no_place : (w : Option ℕ) → has_place w ≡ false → w ≡ None
+no_place None e = refl
+no_place (Some i) e = never (sym e)
 
 pub nowhere_else : NowhereElse
 nowhere_else m h e = no_place (outcome m h).place ((calls_give_first.receive m h).with_place_exactly ∙ e)
 
 -- ---- An update: 13 comes from its last test, whose place is the first byte that is no character.
 thirteen_given : (n : ℕ) (text : List ℕ) → let tests = test (ltb 0 n) 11 ∷ update_tests n text in
-    (given tests).number ≡ 13 → ((given tests).place ≡ At (characters_in_front text)) × (all_characters text ≡ false)
+    (given tests).number ≡ 13 → ((given tests).place ≡ Some (characters_in_front text)) × (all_characters text ≡ false)
 thirteen_given n text e = go (ltb 0 n) (eqb (length text) n) (all_characters text) e
   where
     go : (x y z : Bool) → let tests = test x 11 ∷ test y 18 ∷ test_at z 13 (characters_in_front text) ∷ [] in
-        (given tests).number ≡ 13 → ((given tests).place ≡ At (characters_in_front text)) × (z ≡ false)
+        (given tests).number ≡ 13 → ((given tests).place ≡ Some (characters_in_front text)) × (z ≡ false)
     go false y z e = absurd (omega arith)
     go true false z e = absurd (omega arith)
     go true true false e = (refl, refl)
     go true true true e = absurd (omega arith)
 
 fields_thirteen : (p : Printer) (text : List ℕ) (c : ℕ) → let o = obeyed p (update_fields p text) c in
-    o.number ≡ 13 → (i : ℕ) × (o.place ≡ At i) × FirstOther text i
+    o.number ≡ 13 → (i : ℕ) × (o.place ≡ Some i) × FirstOther text i
 unfolding update_fields
 fields_thirteen p text c e =
     let g = obeyed_given p (update_fields p text) c in
@@ -123,7 +121,7 @@ module _ (p : Printer) (i : ℕ) (d : List ℕ) where
         (λ _. r)
 
     -- 12 and 13, of the message that is there.
-    edit_there : (s : List ℕ) → s ≡ message (jet_in p d) → verdict s ≡ Good → Row (edit_tests s (address_in d) (drop 3 d))
+    edit_there : (s : List ℕ) → s ≡ message (jet_in p d) → verdict s ≡ good → Row (edit_tests s (address_in d) (drop 3 d))
     unfolding edited
     edit_there s e v =
         let a = address_in d in

@@ -5,15 +5,14 @@ use mathlib.Core.Bool.{Bool, true, false}
 use mathlib.Core.List.{List, []}
 use mathlib.Core.Path.{◌≡◌, refl, ◌∙◌}
 use native.Mathlib.Omega.{arith}
+use Rattle.std.proofs.Common.{Ok, Err}
 use borrow.Author.Tests.{leb-true, ltb-false}
 use lib.Dec.{leb}
 use lib.ListN.{length}
 use Rattle.frame.proofs.Ground.{never, both_true, pick_case, every_at}
 use Rattle.content.specs.StripLaws.{Printable}
-use Rattle.content.specs.Content.{verdict, is_good, is_content}
+use Rattle.content.specs.Content.{Verdict, good, verdict, is_good, is_content}
 use Rattle.content.specs.Strip.{strip}
-use Rattle.content.specs.declared.test.Verdict.{Verdict}
-use Rattle.content.specs.declared.test.Verdict.TheVariants.{Good, Unfit}
 use Rattle.content.proofs.StripLaws.{strip_resolves, strip_ends, strip_is_content, strip_same_shape, strip_length}
 use Rattle.calendar.specs.Clock.{entries}
 use Rattle.printer.specs.Counter.{Counter, is_set, moved, counted}
@@ -77,15 +76,15 @@ counted_keeps p =
     }
 
 -- ---- The strip of each jet.
-good : (t : Verdict) → is_good t ≡ true → t ≡ Good
-good Good e = refl
-good (Unfit i) e = never e
+read_good : (t : Verdict) → is_good t ≡ true → t ≡ good
+read_good (Ok u) e = refl
+read_good (Err i) e = never e
 
-pub content_good : (s : List ℕ) → is_content s ≡ true → (length s ≤ 512) × (verdict s ≡ Good)
+pub content_good : (s : List ℕ) → is_content s ≡ true → (length s ≤ 512) × (verdict s ≡ good)
 unfolding is_content
 content_good s e =
     let h = both_true (leb (length s) 512) (is_good (verdict s)) e in
-    (leb-true (length s) 512 h.0, good (verdict s) h.1)
+    (leb-true (length s) 512 h.0, read_good (verdict s) h.1)
 
 -- A jet without a message holds no byte of one, and has no strip.
 pub none_empty : (j : Jet) → has_message j ≡ false → message j ≡ []

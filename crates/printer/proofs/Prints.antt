@@ -51,9 +51,6 @@ pub record Printed (xs : List (List ℕ)) (before after lengths : List ℕ) (beh
   pub counts : lengths ≡ take n (map length xs) ++ drop n (replicate 4 0)
   pub short : behind ≤ 1536 * n
 
-pub printed_none : (xs : List (List ℕ)) (before : List ℕ) → Printed xs before before (replicate 4 0) 0 0
-printed_none xs before = record { laid = record { count = refl; inside = omega arith; same = refl }; counts = refl; short = omega arith }
-
 pub printed_more : {xs : List (List ℕ)} {before after lengths : List ℕ} {behind n : ℕ} (k : ℕ) {x last : List ℕ} → length xs ≡ 4 → 6144 ≤ length before → n < 4
     → Printed xs before after lengths behind n → get_or xs n [] ≡ x → k ≡ length x → k ≤ 1536 → last ≡ over x (mid_of behind (length after - behind) after)
     → Printed xs before (put_mid behind (length after - behind) after last) (set lengths n k) (behind + k) (n + 1)
@@ -77,12 +74,13 @@ printed_all {xs} {before} {n = n} four h g p =
     )
 
 -- The strip of the next jet.
-pub strip_next : (m es : List ℕ) {at n : ℕ} → n < 4 → at ≡ jets_place + jet_size * n → es ≡ entries_now (printer_of m)
-    → get_or (strips (printer_of m)) n [] ≡ strip_of es (jet_of (mid_of at (at + jet_size - at) m))
-strip_next m es {n = n} h e q =
+pub strip_next : (m es : List ℕ) {n : ℕ} → n < 4 → es ≡ entries_now (printer_of m)
+    → let at = jets_place + jet_size * n in
+    get_or (strips (printer_of m)) n [] ≡ strip_of es (jet_of (mid_of at (at + jet_size - at) m))
+strip_next m es {n} h q =
     let p : Printer = printer_of m in
     each_at (strip_of (entries_now p)) 1 p.jets n empty_jet [] (omega (arith, four_jets m))
-    ∙ ap₂ strip_of (sym q) (jet_next p n ∙ sym (jet_lent m (n + 1) (e ∙ omega arith) (omega arith) (omega arith)))
+    ∙ ap₂ strip_of (sym q) (jet_next p n ∙ sym (jet_lent m (n + 1) (omega arith) (omega arith) (omega arith)))
 
 pub four_strips : (m : List ℕ) → length (strips (printer_of m)) ≡ 4
 unfolding printer_of
@@ -110,52 +108,53 @@ part_laid {a} {w} {before} {after} k last l e h =
           (sym (append_assoc w last (drop (length (w ++ last)) before)));
     }
 
-pub record Counted (m m' : List ℕ) (at n : ℕ) : Type 0 where
-  pub place : at ≡ jets_place + jet_size * n
-  pub laid : Laid at (front_bytes (printer_of m) ++ joined (take n (counted_bytes (printer_of m)))) m m'
+pub record Counted (m m' : List ℕ) (n : ℕ) : Type 0 where
+  pub laid : Laid (jets_place + jet_size * n) (front_bytes (printer_of m) ++ joined (take n (counted_bytes (printer_of m)))) m m'
 
 front_stays : (p : Printer) {m : List ℕ} → bytes_of p ≡ m → m ≡ over (front_bytes p ++ []) m
 unfolding bytes_of
 front_stays p {m} e = subst (λ (l : List ℕ). l ≡ over (front_bytes p ++ []) l) e refl
 
-pub counted_none : (m : List ℕ) → length m ≡ state_size → Bytes m → Counted m m jets_place 0
+pub counted_none : (m : List ℕ) → length m ≡ state_size → Bytes m → Counted m m 0
 counted_none m full f =
-    record {
-      place = refl;
-      laid = record { count = refl; inside = omega arith; same = front_stays (printer_of m) (state_back m full f) };
-    }
+    record { laid = record { count = refl; inside = omega arith; same = front_stays (printer_of m) (state_back m full f) } }
 
 -- The part of the next jet is as it was.
-pub counted_jet_at : {m m' : List ℕ} {at n : ℕ} → n < 4 → Counted m m' at n → jet_of (mid_of at (at + jet_size - at) m') ≡ jet_at (printer_of m) (n + 1)
-counted_jet_at {m} {m'} {at} {n} h c =
-    ap jet_of (part_behind (at + jet_size - at) c.laid) ∙ jet_lent m (n + 1) (c.place ∙ omega arith) (omega arith) (omega arith)
+pub counted_jet_at : {m m' : List ℕ} {n : ℕ} → n < 4 → Counted m m' n
+    → let at = jets_place + jet_size * n in
+    jet_of (mid_of at (at + jet_size - at) m') ≡ jet_at (printer_of m) (n + 1)
+counted_jet_at {m} {m'} {n} h c =
+    let at = jets_place + jet_size * n in
+    ap jet_of (part_behind (at + jet_size - at) c.laid) ∙ jet_lent m (n + 1) (omega arith) (omega arith) (omega arith)
 
 counted_four : (m : List ℕ) → length (counted_jets (printer_of m)).jets ≡ 4
 unfolding printer_of
 counted_four m = refl
 
-pub counted_more : {m m' : List ℕ} {at n : ℕ} {last : List ℕ} → length m ≡ state_size → n < 4 → Counted m m' at n → length last ≡ jet_size
-    → last ≡ jet_bytes (counted_jet (jet_of (mid_of at (at + jet_size - at) m'))) → Counted m (put_mid at (at + jet_size - at) m' last) (at + jet_size) (n + 1)
-counted_more {m} {m'} {at} {n} {last} full h c size e =
+pub counted_more : {m m' : List ℕ} {n : ℕ} {last : List ℕ} → length m ≡ state_size → n < 4 → Counted m m' n → length last ≡ jet_size
+    → let at = jets_place + jet_size * n in
+    last ≡ jet_bytes (counted_jet (jet_of (mid_of at (at + jet_size - at) m'))) → Counted m (put_mid at (at + jet_size - at) m' last) (n + 1)
+counted_more {m} {m'} {n} {last} full h c size e =
     let p : Printer = printer_of m in
+    let at = jets_place + jet_size * n in
     let next : get_or (counted_bytes p) n [] ≡ last =
     map_at jet_bytes (counted_jets p).jets n empty_jet [] (omega (arith, counted_four m))
     ∙ ap jet_bytes
     (each_at counted_jet 1 p.jets n empty_jet empty_jet (omega (arith, four_jets m)) ∙ ap counted_jet (jet_next p n ∙ sym (counted_jet_at h c)))
     ∙ sym e in
+    let further : jets_place + jet_size * (n + 1) ≡ at + jet_size = omega arith in
     record {
-      place = omega (arith, c.place);
-      laid = rw (joined_next (counted_bytes p) n (omega (arith, counted_four m, length-map (counted_jets p).jets jet_bytes)) next)
-          (part_laid jet_size last c.laid size (omega (arith, c.place)));
+      laid = rw (further, joined_next (counted_bytes p) n (omega (arith, counted_four m, length-map (counted_jets p).jets jet_bytes)) next)
+          (part_laid jet_size last c.laid size (omega arith));
     }
 
-pub counted_all : {m m' : List ℕ} {at n : ℕ} → length m ≡ state_size → 4 ≤ n → n ≤ 4 → Counted m m' at n → m' ≡ bytes_of (counted_jets (printer_of m))
+pub counted_all : {m m' : List ℕ} {n : ℕ} → length m ≡ state_size → n ≡ 4 → Counted m m' n → m' ≡ bytes_of (counted_jets (printer_of m))
 unfolding bytes_of
-counted_all {m} {m'} {at} {n} full h g c =
+counted_all {m} {m'} {n} full h c =
     let xs : List (List ℕ) = counted_bytes (printer_of m) in
     let w : List ℕ = front_bytes (printer_of m) ++ joined (take n xs) in
     let e : n ≡ length xs = omega (arith, counted_four m, length-map (counted_jets (printer_of m)).jets jet_bytes) in
     c.laid.same
-    ∙ ap (λ (l : List ℕ). w ++ l) (drop_of_length-le m {i = length w} (omega (arith, c.laid.count, c.place)))
+    ∙ ap (λ (l : List ℕ). w ++ l) (drop_of_length-le m {i = length w} (omega (arith, c.laid.count)))
     ∙ append-nil w
     ∙ ap (λ (l : List (List ℕ)). front_bytes (printer_of m) ++ joined l) (ap (λ (k : ℕ). take k xs) e ∙ take-length xs)

@@ -3,12 +3,11 @@
 use Prim.Native.Nat.{ℕ}
 use mathlib.Core.Bool.{true}
 use mathlib.Core.List.{List, [], ◌∷◌}
-use mathlib.Core.Path.{◌≡◌, refl, sym, ◌∙◌, ap}
+use mathlib.Core.Path.{◌≡◌, refl, sym, ◌∙◌}
 use native.Mathlib.Omega.{arith}
 use borrow.Author.Tests.{leb-true, leb-false}
 use lib.Dec.{leb}
 use Rattle.frame.specs.Ground.{pick, within}
-use Rattle.frame.specs.declared.given.Given.{Given}
 use Rattle.frame.proofs.Ground.{pick_case, unless_tells, true_both, never}
 use Rattle.printer.specs.State.{printer_of, valid_state}
 use Rattle.printer.specs.Messages.{valid_store}
@@ -38,17 +37,14 @@ bad_state m h e =
 silent_two : (m : List ℕ) → Untouched m (silent (printer_of m) 2) 2
 silent_two m = record { gets = refl; nowhere = refl; takes = refl; writes = refl; prints = refl; stays = refl; stores = refl }
 
-abbrev number : Given → ℕ
-number g = g.number
-
 pub bad_state_elsewhere : BadStateElsewhere
 unfolding set_clock set_date_change tick_clock
 bad_state_elsewhere m =
     record {
-      clock_set = λ c r m' v p. (ap number p.gives ∙ rw v, p.state ∙ rw v);
-      date_change_set = λ t r m' v p. (ap number p.gives ∙ rw v, p.state ∙ rw v);
-      second_passes = λ r m' v p. (ap number p.gives ∙ rw v, p.state ∙ rw v);
-      fresh = λ model c r m' v p. (ap number p.gives ∙ rw v, p.state ∙ rw v);
+      clock_set = λ c r m' v p. (p.gives ∙ rw v, p.state ∙ rw v);
+      date_change_set = λ t r m' v p. (p.gives ∙ rw v, p.state ∙ rw v);
+      second_passes = λ r m' v p. (p.gives ∙ rw v, p.state ∙ rw v);
+      fresh = λ model c r m' v p. (p.gives ∙ rw v, p.state ∙ rw v);
     }
 
 pub short_buffer : ShortBuffer

@@ -1,22 +1,27 @@
 -- What an order comes to: it is refused at its first test that fails, and the state stays, or it is done; and what is answered of it.
-use Prim.Native.Nat.{ℕ, ◌+◌, ◌-◌, ◌≤◌}
+use Prim.Native.Nat.{ℕ, ◌-◌, ◌≤◌}
 use mathlib.Core.Bool.{Bool, true, false}
 use mathlib.Core.List.{List, [], ◌∷◌, map}
 use mathlib.Core.Path.{◌≡◌, refl, sym, ◌∙◌, ap, subst}
 use native.Mathlib.Nat.{not-suc-le-zero}
 use native.Mathlib.Omega.{arith}
+use Rattle.std.proofs.Common.{Result, Ok, Err}
 use borrow.Author.Tests.{ne_eqb, eqb-true}
 use borrow.Rule.Slice.PartMut.{mid_of, put_mid}
 use lib.Dec.{eqb}
-use lib.ListN.{length, set, take, length-append, length-take}
-use Rattle.frame.specs.Ground.{Test, all, joined, over, pick, plain}
+use lib.ListN.{length, set}
+use Rattle.frame.specs.Ground.{all, given, joined, over, pick, plain}
+use Rattle.frame.specs.Given as words
+use Rattle.frame.specs.Given.{given_in, given_of}
+use Rattle.frame.specs.Build.{length_given}
+use Rattle.frame.specs.declared.given.Refusal.{Refusal}
 use Rattle.frame.specs.declared.given.Given.{Given}
 use Rattle.frame.specs.Wire.{fits, size_of}
 use Rattle.frame.specs.Receive.{received}
 use Rattle.frame.proofs.Ground.{checked_all, lent_tail, tail_back}
 use Rattle.printer.specs.State.{Printer, printer_of, bytes_of}
 use Rattle.printer.specs.Order.{Order, StoreChange, unchanged, storing, store_after, no_strips, Obeys}
-use Rattle.printer.specs.Answer.{Silent, Settles, Tells, TellsOrder, ack, nack}
+use Rattle.printer.specs.Answer.{Silent, Settles, TellsOrder, ack, bare, nack}
 use Rattle.printer.specs.Change.{change_order, update_fields}
 use Rattle.printer.specs.Messages.{ChangesStore, select_message, store_message, store_tests, stored_body, stored_number}
 use Rattle.printer.specs.Request.{request_order, ask_table, ask_clock}
@@ -27,15 +32,10 @@ use Rattle.printer.specs.declared.change.Change.{Change}
 use Rattle.printer.specs.declared.change.Change.TheVariants.{Message, Parameters, Both, Characters}
 use Rattle.printer.specs.declared.request.Request.{Request}
 use Rattle.printer.specs.declared.request.Request.TheVariants as request
-use Rattle.printer.specs.declared.request.Told.{Told}
-use Rattle.printer.proofs.Orders.{Fails, Passes, fails_checked, passes_checked}
+use Rattle.printer.proofs.Orders.{given_numbered, refused_given, Fails, Passes, fails_checked, passes_checked}
 use Rattle.printer.proofs.OrderLaws.{obeyed_done, obeyed_refused, given_exactly}
 
 -- ---- The outcome of an order.
--- No refusal's number is 0, which says that all is done.
-not_zero : {n : ℕ} → 8 ≤ n → n ≡ 0 → ⊥
-not_zero h e = omega arith
-
 pub meets_same : {o o' : Outcome} {m answer strips : List ℕ} {a : Answered} {m' answer' strips' : List ℕ} → o' ≡ o
     → Meets o m answer strips a m' answer' strips' → Meets o' m answer strips a m' answer' strips'
 meets_same {m = m} {answer = answer} {strips = strips} {a = a} {m' = m'} {answer' = answer'} {strips' = strips'} e x =
@@ -53,13 +53,12 @@ one_byte b [] h = absurd (not-suc-le-zero h)
 one_byte b (x ∷ before) h = refl
 
 -- ---- What is settled: a silent number, a refusal, and an order that is done.
-pub meets_silent : (p : Printer) {number : ℕ} (m answer strips : List ℕ) {a : Answered} → (number ≡ 0 → ⊥) → Silent number a
+pub meets_silent : (p : Printer) {number : ℕ} (m answer strips : List ℕ) {why : Refusal} {a : Answered} → given_of why ≡ plain number → (number ≡ 0 → ⊥) → Silent why a
     → Meets (silent p number) m answer strips a m answer strips
-meets_silent p {number} m answer strips n s =
+meets_silent p {number} m answer strips g n s =
     rw s.answered
     (record {
-      gives = refl;
-      places = refl;
+      gives = g;
       consumes = refl;
       answers = refl;
       prints = refl;
@@ -69,36 +68,58 @@ meets_silent p {number} m answer strips n s =
     })
 
 -- What stands in the answer buffer before its first byte is settled does not matter where that byte is all.
-pub meets_refusal : (p : Printer) {g : Given} {consumed frame : ℕ} (m : List ℕ) {answer : List ℕ} (strips : List ℕ) {before : List ℕ} {a : Answered} {answer' : List ℕ} → (g.number ≡ 0 → ⊥)
-    → set before 0 nack ≡ over (nack ∷ []) answer → Settles g consumed frame before a answer' → Meets (refusal p g consumed) m answer strips a m answer' strips
-meets_refusal p {g} m strips n q s =
+pub meets_refusal : (p : Printer) {why : Refusal} {consumed : ℕ} (m : List ℕ) {answer : List ℕ} (strips : List ℕ) {before : List ℕ} {a : Answered} {answer' : List ℕ} → ((given_of why).number ≡ 0 → ⊥)
+    → set before 0 nack ≡ over (nack ∷ []) answer → Settles (Err why) consumed before a answer' → Meets (refusal p (given_of why) consumed) m answer strips a m answer' strips
+meets_refusal p {why} m strips n q s =
     rw s.answered
     (record {
       gives = refl;
-      places = refl;
       consumes = refl;
-      answers = rw (ne_eqb g.number 0 n);
+      answers = refl;
       prints = refl;
-      leaves = rw (ne_eqb g.number 0 n);
-      answer_bytes = s.bytes ∙ rw (ne_eqb g.number 0 n) q;
+      leaves = rw (ne_eqb (given_of why).number 0 n);
+      answer_bytes = s.bytes ∙ q;
       strip_bytes = refl;
     })
 
-pub meets_done : (o : Order) {g : Given} {consumed : ℕ} (m : List ℕ) {answer : List ℕ} (strips : List ℕ) {before : List ℕ} {a : Answered} {m' answer' : List ℕ} → o.strips ≡ no_strips → g ≡ plain 0
-    → set before 0 ack ≡ over (ack ∷ o.frame) answer → Settles g consumed (length o.frame) before a answer' → m' ≡ bytes_of o.after
+pub meets_done : (o : Order) {frame consumed : ℕ} (m : List ℕ) {answer : List ℕ} (strips : List ℕ) {before : List ℕ} {a : Answered} {m' answer' : List ℕ} → o.strips ≡ no_strips → frame ≡ length o.frame
+    → set before 0 ack ≡ over (ack ∷ o.frame) answer → Settles (Ok frame) consumed before a answer' → m' ≡ bytes_of o.after
     → Meets (done o consumed) m answer strips a m' answer' strips
 meets_done o m strips e n q s k =
-    rw (s.answered, n)
+    rw s.answered
     (record {
       gives = refl;
-      places = refl;
       consumes = refl;
-      answers = omega arith;
+      answers = omega (arith, n);
       prints = rw e;
       leaves = k;
-      answer_bytes = s.bytes ∙ rw n q;
+      answer_bytes = s.bytes ∙ q;
       strip_bytes = rw e;
     })
+
+-- ---- An order, by what is told of it: refused where a test fails, and done where all hold.
+module _ (p : Printer) (o : Order) {consumed : ℕ} {m answer : List ℕ} (strips : List ℕ) {before : List ℕ} {a : Answered} {m' answer' : List ℕ}
+    (n : numbered o.tests ≡ true) (e : o.strips ≡ no_strips)
+    (refuses : all o.tests ≡ false → (m' ≡ m) × (set before 0 nack ≡ over (nack ∷ []) answer))
+    (does : all o.tests ≡ true → (m' ≡ bytes_of o.after) × (set before 0 ack ≡ over (ack ∷ o.frame) answer)) where
+  meets_settled : (told : Result ℕ Refusal) → given_in told ≡ given o.tests → ((frame : ℕ) → told ≡ Ok frame → all o.tests ≡ true → frame ≡ length o.frame)
+      → Settles told consumed before a answer' → Meets (obeyed p o consumed) m answer strips a m' answer' strips
+  meets_settled told g f s = go told (all o.tests) refl g f s
+    where
+      go : (told : Result ℕ Refusal) (t : Bool) → all o.tests ≡ t → given_in told ≡ given o.tests → ((frame : ℕ) → told ≡ Ok frame → all o.tests ≡ true → frame ≡ length o.frame)
+          → Settles told consumed before a answer' → Meets (obeyed p o consumed) m answer strips a m' answer' strips
+      go (Ok frame) true t g f s =
+          let d = does t in meets_same (obeyed_done p o consumed t) (meets_done o m strips {before = before} e (f frame refl t) d.1 s d.0)
+      go (Ok frame) false t g f s =
+          let q : (given o.tests).number ≡ 0 = ap (λ (x : Given). x.number) (sym g) in
+          absurd (omega (arith, q, (given_exactly o.tests n).1 t))
+      go (Err why) true t g f s = absurd (refused_given why (g ∙ checked_all o.tests _ _ t))
+      go (Err why) false t g f s =
+          let r = refuses t in
+          let k : 8 ≤ (given_of why).number = rw g ((given_exactly o.tests n).1 t) in
+          rw r.0
+          (meets_same (obeyed_refused p o consumed t ∙ ap (λ (x : Given). refusal p x consumed) (sym g))
+          (meets_refusal p m strips {before = before} (λ z. omega arith) r.1 s))
 
 -- ---- An order that changes the state, and one that asks for a frame.
 pub record Changes (o : Order) : Type 0 where
@@ -111,61 +132,44 @@ pub record Asks (p : Printer) (o : Order) : Type 0 where
   pub after : o.after ≡ p
   pub strips : o.strips ≡ no_strips
 
-pub meets_changed : (p : Printer) (o : Order) {g : Given} {consumed : ℕ} {m answer : List ℕ} (strips : List ℕ) {a : Answered} {m' answer' : List ℕ} → Changes o
-    → 1 ≤ length answer → Obeys o m g m' → Settles g consumed 0 answer a answer' → Meets (obeyed p o consumed) m answer strips a m' answer' strips
-meets_changed p o {consumed = consumed} {m} {answer} strips {a} {m'} {answer'} k h c s = go (all o.tests) refl
+pub meets_changed : (p : Printer) (o : Order) (r : Result Unit Refusal) {consumed : ℕ} {m answer : List ℕ} (strips : List ℕ) {a : Answered} {m' answer' : List ℕ} → Changes o
+    → 1 ≤ length answer → Obeys o m (given_in r) m' → Settles (bare r) consumed answer a answer' → Meets (obeyed p o consumed) m answer strips a m' answer' strips
+meets_changed p o r {answer = answer} strips k h c s =
+    meets_settled p o strips k.numbers k.strips
+    (λ t. (c.state ∙ rw t, one_byte nack answer h))
+    (λ t. (c.state ∙ rw t, one_byte ack answer h ∙ ap (λ (f : List ℕ). over (ack ∷ f) answer) (sym k.frame)))
+    (bare r) (given_bare r ∙ c.gives) (λ frame e t. no_frame r e ∙ ap length (sym k.frame)) s
   where
-    go : (t : Bool) → all o.tests ≡ t → Meets (obeyed p o consumed) m answer strips a m' answer' strips
-    go true e =
-        meets_same (obeyed_done p o consumed e)
-        (meets_done o m strips {before = answer} k.strips (c.gives ∙ checked_all o.tests _ _ e) (rw k.frame (one_byte ack answer h)) (rw k.frame s) (c.state ∙ rw e))
-    go false e =
-        let same : m' ≡ m = c.state ∙ rw e in
-        rw same
-        (meets_same (obeyed_refused p o consumed e)
-        (meets_refusal p m strips (not_zero ((given_exactly o.tests k.numbers).1 e)) (one_byte nack answer h) (rw c.gives at s)))
+    given_bare : (r : Result Unit Refusal) → given_in (bare r) ≡ given_in r
+    given_bare (Ok u) = refl
+    given_bare (Err why) = refl
 
-pub meets_told : (p : Printer) (o : Order) {consumed : ℕ} {m answer : List ℕ} (strips : List ℕ) {t : Told} {last : List ℕ} {a : Answered} {answer' : List ℕ} → Asks p o
-    → bytes_of p ≡ m → 1 ≤ length answer → TellsOrder o (mid_of 1 (length answer - 1) answer) t last
-    → Settles (plain t.number) consumed t.size (put_mid 1 (length answer - 1) answer last) a answer' → Meets (obeyed p o consumed) m answer strips a m answer' strips
-meets_told p o {consumed} {m} {answer} strips {t} {last} {a} {answer'} k b h c s = go (all o.tests) refl
-  where
-    go : (holds : Bool) → all o.tests ≡ holds → Meets (obeyed p o consumed) m answer strips a m answer' strips
-    go true e =
-        let size : t.size ≡ length o.frame = c.size ∙ rw e in
-        meets_same (obeyed_done p o consumed e)
-        (meets_done o m strips k.strips (c.gives ∙ checked_all o.tests _ _ e) (first_byte ack o.frame answer last h (c.bytes ∙ rw e)) (rw size at s) (sym b ∙ ap bytes_of (sym k.after)))
-    go false e =
-        meets_same (obeyed_refused p o consumed e)
-        (meets_refusal p m strips (not_zero ((given_exactly o.tests k.numbers).1 e)) (first_byte nack [] answer last h (c.bytes ∙ rw e)) (rw c.gives at s))
+    no_frame : (r : Result Unit Refusal) {frame : ℕ} → bare r ≡ Ok frame → frame ≡ 0
+    no_frame (Ok u) e = cc
+    no_frame (Err why) e = cc
 
--- The frame that is told has its place in the part that was lent for it.
-pub told_fits : {ts : List Test} {frame : List ℕ} (answer : List ℕ) {t : Told} {last : List ℕ} → Tells ts frame (mid_of 1 (length answer - 1) answer) t last → 1 ≤ length answer
-    → length (put_mid 1 (length answer - 1) answer last) ≡ length answer → t.size + 1 ≤ length (put_mid 1 (length answer - 1) answer last)
-told_fits answer {last = last} c h e =
-    omega (
-      arith,
-      c.size,
-      simp length-append at (ap length c.bytes),
-      ap length (tail_back 1 answer last),
-      length-append (take 1 answer) last,
-      length-take 1 answer,
-    )
+pub meets_told : (p : Printer) (o : Order) {consumed : ℕ} {m answer : List ℕ} (strips : List ℕ) {t : Result ℕ Refusal} {last : List ℕ} {a : Answered} {answer' : List ℕ} → Asks p o
+    → bytes_of p ≡ m → 1 ≤ length answer → TellsOrder o (mid_of 1 (length answer - 1) answer) (words.numbered t) last
+    → Settles t consumed (put_mid 1 (length answer - 1) answer last) a answer' → Meets (obeyed p o consumed) m answer strips a m answer' strips
+meets_told p o {answer = answer} strips {t} {last} k b h c s =
+    meets_settled p o strips k.numbers k.strips
+    (λ e. (refl, first_byte nack [] answer last h (c.bytes ∙ rw e)))
+    (λ e. (sym b ∙ ap bytes_of (sym k.after), first_byte ack o.frame answer last h (c.bytes ∙ rw e)))
+    t (given_numbered t ∙ c.gives) (λ frame q e. ap (λ (x : Result ℕ Refusal). length_given (words.numbered x)) (sym q) ∙ c.size ∙ rw e) s
 
 -- ---- An order that prints: the lengths of its strips stand in the place of none.
-pub meets_printed : (o : Order) {g : Given} {consumed : ℕ} (m : List ℕ) {answer strips : List ℕ} {a : Answered} {m' answer' strips' lengths : List ℕ} → o.frame ≡ [] → g ≡ plain 0 → 1 ≤ length answer
-    → Settles g consumed 0 answer a answer' → m' ≡ bytes_of o.after → lengths ≡ map length o.strips → strips' ≡ over (joined o.strips) strips
-    → Meets (done o consumed) m answer strips (record { number = a.number; place = a.place; consumed = a.consumed; answer = a.answer; strips = lengths }) m' answer' strips'
-meets_printed o m {answer} e n h s k l b =
-    rw (s.answered, n)
+pub meets_printed : (o : Order) {consumed : ℕ} (m : List ℕ) {answer strips : List ℕ} {a : Answered} {m' answer' strips' lengths : List ℕ} → o.frame ≡ [] → 1 ≤ length answer
+    → Settles (Ok 0) consumed answer a answer' → m' ≡ bytes_of o.after → lengths ≡ map length o.strips → strips' ≡ over (joined o.strips) strips
+    → Meets (done o consumed) m answer strips (record { outcome = a.outcome; consumed = a.consumed; answer = a.answer; strips = lengths }) m' answer' strips'
+meets_printed o m {answer} e h s k l b =
+    rw s.answered
     (record {
       gives = refl;
-      places = refl;
       consumes = refl;
       answers = rw e;
       prints = l;
       leaves = k;
-      answer_bytes = s.bytes ∙ rw n (one_byte ack answer h ∙ ap (λ (f : List ℕ). over (ack ∷ f) answer) (sym e));
+      answer_bytes = s.bytes ∙ one_byte ack answer h ∙ ap (λ (f : List ℕ). over (ack ∷ f) answer) (sym e);
       strip_bytes = b;
     })
 
@@ -197,26 +201,26 @@ same_state : (t : Bool) {m b : List ℕ} → b ≡ m → m ≡ pick t b m
 same_state true e = sym e
 same_state false e = refl
 
-pub fulfils_stored : (p : Printer) (store d : List ℕ) {g : Given} {consumed : ℕ} {m answer : List ℕ} (strips : List ℕ) {a : Answered} {store' answer' : List ℕ} → bytes_of p ≡ m
-    → 1 ≤ length answer → ChangesStore (store_tests store d) (storing (stored_number d) (stored_body d)) store g store' → Settles g consumed 0 answer a answer'
+pub fulfils_stored : (p : Printer) (store d : List ℕ) (r : Result Unit Refusal) {consumed : ℕ} {m answer : List ℕ} (strips : List ℕ) {a : Answered} {store' answer' : List ℕ} → bytes_of p ≡ m
+    → 1 ≤ length answer → ChangesStore (store_tests store d) (storing (stored_number d) (stored_body d)) store (given_in r) store' → Settles (bare r) consumed answer a answer'
     → Fulfils (obeyed p (store_message p store d) consumed) m store answer strips a m store' answer' strips
 unfolding store_message
-fulfils_stored p store d {consumed = consumed} strips b h c s =
+fulfils_stored p store d r {consumed = consumed} strips b h c s =
     let o = store_message p store d in
     record {
-      meets = meets_changed p o strips (record { numbers = refl; frame = refl; strips = refl }) h (record { gives = c.gives; state = same_state (all o.tests) b }) s;
+      meets = meets_changed p o r strips (record { numbers = refl; frame = refl; strips = refl }) h (record { gives = c.gives; state = same_state (all o.tests) b }) s;
       stores = c.bytes ∙ sym (obeyed_store p o consumed store);
     }
 
 -- ---- What is handed in: silence where the state, the store or a buffer is not as it must be, and else what is handled.
-pub receives_silent : (m store s answer strips : List ℕ) {number : ℕ} {a : Answered} → Fails (handing_tests m (handed store s answer strips)) (plain number) → (number ≡ 0 → ⊥)
-    → Silent number a → Receives m store s answer strips a m store answer strips
+pub receives_silent : (m store s answer strips : List ℕ) {number : ℕ} {why : Refusal} {a : Answered} → given_of why ≡ plain number
+    → Fails (handing_tests m (handed store s answer strips)) (plain number) → (number ≡ 0 → ⊥) → Silent why a → Receives m store s answer strips a m store answer strips
 unfolding outcome
-receives_silent m store s answer strips f n x =
+receives_silent m store s answer strips g f n x =
     record {
       fulfils =
           fulfils_same (fails_checked (λ (r : Given). silent (printer_of m) r.number) (handled (printer_of m) store s (received s)) f)
-          (record { meets = meets_silent (printer_of m) m answer strips n x; stores = refl });
+          (record { meets = meets_silent (printer_of m) m answer strips g n x; stores = refl });
     }
 
 pub receives_handled : {m store s answer strips : List ℕ} {a : Answered} {m' store' answer' strips' : List ℕ} → Passes (handing_tests m (handed store s answer strips))

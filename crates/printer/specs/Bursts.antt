@@ -1,8 +1,7 @@
 -- What a burst comes to: byte for byte by the second receiver, and together by the first. 02, Wish 6: the two are the same.
-use Rattle.std.specs.Prelude.{ℕ, zero, suc, ◌≤◌, true, List, [], ◌∷◌, ◌≡◌, eqb, length, drop}
+use Rattle.std.specs.Prelude.{ℕ, Option, zero, suc, ◌≤◌, true, List, [], ◌∷◌, ◌≡◌, eqb, length, drop}
 use Rattle.frame.specs.Ground.{pick}
 use Rattle.frame.specs.Holding.{buffer_behind, holding_behind, holding_size, silenced}
-use Rattle.frame.specs.declared.given.Where.{Where}
 use Rattle.frame.specs.declared.holding.Holding.{Holding}
 use Rattle.printer.specs.State.{valid_state}
 use Rattle.printer.specs.BytesLaws.{AllBytes}
@@ -16,7 +15,7 @@ use Rattle.printer.specs.Demands.{full}
 -- strips".
 pub record Reply : Type 0 where
   pub number : ℕ
-  pub place : Where
+  pub place : Option ℕ
   pub answer : List ℕ
   pub strips : List (List ℕ)
 

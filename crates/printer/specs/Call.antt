@@ -1,6 +1,6 @@
 -- The other calls of the box: a fresh printer, setting the clock and the date change, and a tick.
 use Rattle.std.specs.Prelude.{ℕ, List, [], ◌∷◌, ◌≡◌, eqb, length}
-use Rattle.frame.specs.Ground.{Test, given, within, pick, plain, test, checked}
+use Rattle.frame.specs.Ground.{Test, given, within, pick, test, checked}
 use Rattle.frame.specs.declared.given.Given.{Given}
 use Rattle.calendar.specs.Clock.{is_real, date, moment, tick}
 use Rattle.calendar.specs.DateChange.{is_time}
@@ -38,6 +38,6 @@ unfoldable pub tick_clock : List ℕ → Order
 tick_clock m = change (test (valid_state m) 1 ∷ []) (with_clock (printer_of m) (tick (printer_of m).clock))
 
 -- The contracts: the number handed back, and the state's bytes behind the call.
-pub record Freshens (m : List ℕ) (model : ℕ) (clock : Clock) (r : ℕ) (m' : List ℕ) : Type 0 where
-  pub gives : plain r ≡ given (size_tests m model clock)
+pub record Freshens (m : List ℕ) (model : ℕ) (clock : Clock) (r : Given) (m' : List ℕ) : Type 0 where
+  pub gives : r ≡ given (size_tests m model clock)
   pub state : m' ≡ pick (eqb (length m) state_size) (bytes_of (fresh model clock)) m

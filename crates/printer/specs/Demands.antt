@@ -1,10 +1,9 @@
 -- The three demands, over the rules: a type of calls, what a list of calls makes of a fresh printer, and what is then true.
-use Rattle.std.specs.Prelude.{ℕ, ◌+◌, ◌-◌, ◌≤◌, Bool, true, false, List, [], ◌∷◌, ◌++◌, ◌↔◌, ◌≡◌, eqb, leb, ltb, length, get_or, take, drop}
+use Rattle.std.specs.Prelude.{ℕ, None, Some, Ok, ◌+◌, ◌-◌, ◌≤◌, Bool, true, false, List, [], ◌∷◌, ◌++◌, ◌↔◌, ◌≡◌, eqb, leb, ltb, length, get_or, take, drop}
 use Rattle.frame.specs.Ground.{pick, both, plain, within, has, all}
-use Rattle.frame.specs.declared.given.Where.TheVariants.{Nowhere, At}
+use Rattle.frame.specs.declared.given.Given.{Given}
 use Rattle.frame.specs.Wire.{size_of, fits}
 use Rattle.frame.specs.Build.{frame, Builds}
-use Rattle.frame.specs.declared.build.Built.TheVariants.{Written}
 use Rattle.frame.specs.Receive.{received}
 use Rattle.frame.specs.declared.receive.Received.{Received}
 use Rattle.frame.specs.declared.receive.Received.TheVariants.{Partial, Refused, Misfit, Enquiry, Update, Frame}
@@ -71,7 +70,7 @@ full store s = record { bytes = s; store = store; answer_room = answer_size; str
 -- With a bad state or a short buffer nothing is consumed, written or changed.
 pub record Untouched (m : List ℕ) (o : Outcome) (number : ℕ) : Type 0 where
   pub gets : o.number ≡ number
-  pub nowhere : o.place ≡ Nowhere
+  pub nowhere : o.place ≡ None
   pub takes : o.consumed ≡ 0
   pub writes : o.answer ≡ []
   pub prints : o.strips ≡ no_strips
@@ -84,14 +83,14 @@ BadState =
 
 -- So it is where the clock or the date change is set and where a second passes: 1, and no byte changes; and a fresh printer wants bytes of a state's size.
 pub record OtherCalls (m : List ℕ) : Type 0 where
-  pub clock_set : (c : Clock) (r : ℕ) (m' : List ℕ) → valid_state m ≡ false → Obeys (set_clock m c) m (plain r) m' → (r ≡ 1) × (m' ≡ m)
+  pub clock_set : (c : Clock) (r : Given) (m' : List ℕ) → valid_state m ≡ false → Obeys (set_clock m c) m r m' → (r ≡ plain 1) × (m' ≡ m)
   pub date_change_set :
-      (t : TimeOfDay) (r : ℕ) (m' : List ℕ) → valid_state m ≡ false →
-      Obeys (set_date_change m t) m (plain r) m' → (r ≡ 1) × (m' ≡ m)
-  pub second_passes : (r : ℕ) (m' : List ℕ) → valid_state m ≡ false → Obeys (tick_clock m) m (plain r) m' → (r ≡ 1) × (m' ≡ m)
+      (t : TimeOfDay) (r : Given) (m' : List ℕ) → valid_state m ≡ false →
+      Obeys (set_date_change m t) m r m' → (r ≡ plain 1) × (m' ≡ m)
+  pub second_passes : (r : Given) (m' : List ℕ) → valid_state m ≡ false → Obeys (tick_clock m) m r m' → (r ≡ plain 1) × (m' ≡ m)
   pub fresh :
-      (model : ℕ) (c : Clock) (r : ℕ) (m' : List ℕ) → eqb (length m) state_size ≡ false →
-      Freshens m model c r m' → (r ≡ 1) × (m' ≡ m)
+      (model : ℕ) (c : Clock) (r : Given) (m' : List ℕ) → eqb (length m) state_size ≡ false →
+      Freshens m model c r m' → (r ≡ plain 1) × (m' ≡ m)
 
 abbrev pub BadStateElsewhere : Type 0
 BadStateElsewhere = (m : List ℕ) → OtherCalls m
@@ -135,8 +134,8 @@ RefusedStays =
 -- What is handed in passes if it is a 05h, or an update or a sound frame all of whose tests hold.
 abbrev pub passes : Printer → List ℕ → List ℕ → Received → Bool
 passes p store s Partial = false
-passes p store s (Refused number consumed) = false
-passes p store s (Misfit number identifier n consumed) = false
+passes p store s (Refused why consumed) = false
+passes p store s (Misfit why identifier n consumed) = false
 passes p store s Enquiry = true
 passes p store s (Update n consumed) = all (update_fields p (take n (drop 1 s))).tests
 passes p store s (Frame identifier n consumed) = all (order p store identifier (take n (drop 3 s))).tests
@@ -177,7 +176,7 @@ UpdateNumbered =
 -- 02, Wish 4: "12 and 13 carry the first offending address or symbol index, from 0": of an update its characters count through, jet 2's
 -- behind jet 1's.
 abbrev pub UpdateTellsWhere : Type 0
-UpdateTellsWhere = OfUpdates (λ m text o. o.number ≡ 13 → (i : ℕ) × (o.place ≡ At i) × FirstOther text i)
+UpdateTellsWhere = OfUpdates (λ m text o. o.number ≡ 13 → (i : ℕ) × (o.place ≡ Some i) × FirstOther text i)
 
 -- 02, Wish 4: "Refusal 10 shall carry a place in the content", which begins behind the jet of 0Ah, and behind the 38 bytes of jet or number
 -- and parameters of 0Ch and 1Ch.
@@ -187,11 +186,11 @@ content_in identifier d = pick (eqb identifier 0x0A) (drop 1 d) (drop 38 d)
 -- Of a frame: 10 has the first byte with which no good content can begin, 12 the first address that is no character of the message's tree,
 -- 13 the first of the symbols that is no character.
 pub record TellsWhere (p : Printer) (identifier : ℕ) (d : List ℕ) (o : Outcome) : Type 0 where
-  pub ten : o.number ≡ 10 → (i : ℕ) × (o.place ≡ At i) × TenAt (content_in identifier d) i
+  pub ten : o.number ≡ 10 → (i : ℕ) × (o.place ≡ Some i) × TenAt (content_in identifier d) i
   pub twelve :
       o.number ≡ 12 →
-      (i : ℕ) × (o.place ≡ At i) × FirstAstray (message (jet_in p d)) (address_in d) (length (drop 3 d)) i
-  pub thirteen : o.number ≡ 13 → (i : ℕ) × (o.place ≡ At i) × FirstOther (drop 3 d) i
+      (i : ℕ) × (o.place ≡ Some i) × FirstAstray (message (jet_in p d)) (address_in d) (length (drop 3 d)) i
+  pub thirteen : o.number ≡ 13 → (i : ℕ) × (o.place ≡ Some i) × FirstOther (drop 3 d) i
 
 abbrev pub FrameTellsWhere : Type 0
 FrameTellsWhere =
@@ -204,7 +203,7 @@ FrameTellsWhere =
 -- No other number has a place, whatever is handed in.
 abbrev pub NowhereElse : Type 0
 NowhereElse =
-    (m : List ℕ) (h : Handed) → has (outcome m h).number (10 ∷ 12 ∷ 13 ∷ []) ≡ false → (outcome m h).place ≡ Nowhere
+    (m : List ℕ) (h : Handed) → has (outcome m h).number (10 ∷ 12 ∷ 13 ∷ []) ≡ false → (outcome m h).place ≡ None
 
 -- The message that a number in the data stands for: 02, Wish 1, 40h has "jet, number", and the body is "37 parameter bytes, content".
 abbrev pub selected_in : List ℕ → List ℕ → List ℕ
@@ -238,7 +237,7 @@ change_after identifier d = pick (eqb identifier 0x1C) (storing (get_or d 0 0) (
 -- "and then has exactly the written effect, answer and strip included": where what is handed in passes, this is the outcome.
 pub record Effect (o : Outcome) (consumed : ℕ) (frame : List ℕ) (strips : List (List ℕ)) (p : Printer) (change : StoreChange) : Type 0 where
   pub acknowledged : o.number ≡ 0
-  pub nowhere : o.place ≡ Nowhere
+  pub nowhere : o.place ≡ None
   pub takes : o.consumed ≡ consumed
   pub answers : o.answer ≡ 0x06 ∷ frame
   pub prints : o.strips ≡ strips
@@ -247,8 +246,8 @@ pub record Effect (o : Outcome) (consumed : ℕ) (frame : List ℕ) (strips : Li
 
 abbrev pub HasEffect : Printer → List ℕ → List ℕ → Received → Outcome → Type 0
 HasEffect p store s Partial o = ⊥
-HasEffect p store s (Refused number consumed) o = ⊥
-HasEffect p store s (Misfit number identifier n consumed) o = ⊥
+HasEffect p store s (Refused why consumed) o = ⊥
+HasEffect p store s (Misfit why identifier n consumed) o = ⊥
 HasEffect p store s Enquiry o = Effect o 1 [] no_strips p unchanged
 HasEffect p store s (Update n consumed) o = Effect o consumed [] no_strips (updated_head p (take n (drop 1 s))) unchanged
 HasEffect p store s (Frame identifier n consumed) o =
@@ -329,7 +328,7 @@ BuiltReadAsBuilt =
     (m store before : List ℕ) (identifier : ℕ) (d : List ℕ) (n : ℕ) (after rest : List ℕ) →
     valid_state m ≡ true →
     valid_store store ≡ true →
-    Builds before identifier d (Written n) after →
+    Builds before identifier d (Ok n) after →
     ReadAsBuilt (printer_of m) store identifier d (outcome m (full store (take n after ++ rest)))
 
 -- ---- The store. 02, Wish 1: storing "leaves the store well formed", as does every other call that is lent it.
@@ -385,8 +384,8 @@ brought_by jet store identifier d =
 
 abbrev pub brought_in : ℕ → List ℕ → List ℕ → Received → Brought
 brought_in jet store s Partial = nothing
-brought_in jet store s (Refused number consumed) = nothing
-brought_in jet store s (Misfit number identifier n consumed) = nothing
+brought_in jet store s (Refused why consumed) = nothing
+brought_in jet store s (Misfit why identifier n consumed) = nothing
 brought_in jet store s Enquiry = nothing
 brought_in jet store s (Update n consumed) = nothing
 brought_in jet store s (Frame identifier n consumed) = brought_by jet store identifier (take n (drop 3 s))

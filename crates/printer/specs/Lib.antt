@@ -1,6 +1,7 @@
 -- The rules of `printer`, a page for each room.
 pub mod Number
 pub mod Counter
+pub mod Settings
 pub mod Jet
 pub mod State
 pub mod Order

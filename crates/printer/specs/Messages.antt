@@ -1,7 +1,9 @@
 -- The messages in the lent store: when a store is well formed, what 1Ch stores and 40h selects, and what the approval screen is shown.
-use Rattle.std.specs.Prelude.{ℕ, Bool, true, List, [], ◌∷◌, ◌≡◌, get_or, take, drop}
-use Rattle.frame.specs.Ground.{Test, all, both, given, pick, plain, test}
+use Rattle.std.specs.Prelude.{ℕ, Bool, true, Result, Ok, Err, List, [], ◌∷◌, ◌≡◌, get_or, take, drop}
+use denote.Ref.{Bor}
+use Rattle.frame.specs.Ground.{Test, all, both, given, pick, test}
 use Rattle.frame.specs.declared.given.Given.{Given}
+use Rattle.frame.specs.declared.given.Refusal.{Refusal}
 use Rattle.content.specs.Content.{content_test, is_content}
 use Rattle.library.specs.Record.{Record, records}
 use Rattle.library.specs.Store.{body_of, has_room, held, is_number, is_store}
@@ -87,6 +89,11 @@ show_tests store n = test (valid_store store) 1 ∷ test (is_number n) 17 ∷ []
 abbrev pub shown : List ℕ → List ℕ → ℕ → List ℕ
 shown store current n = pick (held n (records store)) (body_content (body_of n (records store))) current
 
-pub record Shows (store current : List ℕ) (n refused : ℕ) (r : List ℕ) : Type 0 where
-  pub gives : plain refused ≡ given (show_tests store n)
+pub record Shows (store current : List ℕ) (n : ℕ) (g : Given) (r : List ℕ) : Type 0 where
+  pub gives : g ≡ given (show_tests store n)
   pub bytes : r ≡ pick (all (show_tests store n)) (shown store current n) []
+
+-- The bytes that an answer hands back: none of a refusal.
+abbrev pub bytes_shown : Result (Bor (List ℕ)) Refusal → List ℕ
+bytes_shown (Ok part) = part.now
+bytes_shown (Err why) = []

@@ -1,6 +1,7 @@
 -- The tests of every frame and call of the printer stand in the order of the numbers, so that of those that apply the first is given.
 use Rattle.std.specs.Prelude.{ℕ, true, false, List, [], ◌++◌, ◌≡◌, take, drop}
-use Rattle.frame.specs.Ground.{Test, plain, all}
+use Rattle.frame.specs.Ground.{Test, all}
+use Rattle.frame.specs.declared.given.Given.{Given}
 use Rattle.frame.specs.Numbers.{FirstGiven, in_order}
 use Rattle.frame.specs.NumberLaws.{receive_tests}
 use Rattle.frame.specs.Receive.{received}
@@ -33,8 +34,8 @@ pub record InOrder : Type 0 where
 -- received, and then the tests of the update or of the frame.
 abbrev pub asked_tests : Printer → List ℕ → List ℕ → Received → List Test
 asked_tests p store s Partial = []
-asked_tests p store s (Refused number consumed) = []
-asked_tests p store s (Misfit number identifier n consumed) = []
+asked_tests p store s (Refused why consumed) = []
+asked_tests p store s (Misfit why identifier n consumed) = []
 asked_tests p store s Enquiry = []
 asked_tests p store s (Update n consumed) = (update_fields p (take n (drop 1 s))).tests
 asked_tests p store s (Frame identifier n consumed) = (order p store identifier (take n (drop 3 s))).tests
@@ -50,17 +51,17 @@ pub record CallsGiveFirst : Type 0 where
   pub receive : (m : List ℕ) (h : Handed) → FirstGiven (outcome_tests m h) (given_by (outcome m h))
   pub byte : (m : List ℕ) (h : HandedByte) → all (byte_tests m h) ≡ false → FirstGiven (byte_tests m h) (given_by (single m h))
   pub fresh :
-      (m : List ℕ) (model : ℕ) (clock : Clock) (r : ℕ) (m' : List ℕ) →
+      (m : List ℕ) (model : ℕ) (clock : Clock) (r : Given) (m' : List ℕ) →
       Freshens m model clock r m' →
-      FirstGiven (size_tests m model clock) (plain r)
+      FirstGiven (size_tests m model clock) r
   pub clock :
-      (m : List ℕ) (clock : Clock) (r : ℕ) (m' : List ℕ) →
-      Obeys (set_clock m clock) m (plain r) m' →
-      FirstGiven (set_clock m clock).tests (plain r)
+      (m : List ℕ) (clock : Clock) (r : Given) (m' : List ℕ) →
+      Obeys (set_clock m clock) m r m' →
+      FirstGiven (set_clock m clock).tests r
   pub date_change :
-      (m : List ℕ) (time : TimeOfDay) (r : ℕ) (m' : List ℕ) →
-      Obeys (set_date_change m time) m (plain r) m' →
-      FirstGiven (set_date_change m time).tests (plain r)
-  pub tick : (m : List ℕ) (r : ℕ) (m' : List ℕ) → Obeys (tick_clock m) m (plain r) m' → FirstGiven (tick_clock m).tests (plain r)
+      (m : List ℕ) (time : TimeOfDay) (r : Given) (m' : List ℕ) →
+      Obeys (set_date_change m time) m r m' →
+      FirstGiven (set_date_change m time).tests r
+  pub tick : (m : List ℕ) (r : Given) (m' : List ℕ) → Obeys (tick_clock m) m r m' → FirstGiven (tick_clock m).tests r
   pub show :
-      (store current : List ℕ) (n refused : ℕ) (r : List ℕ) → Shows store current n refused r → FirstGiven (show_tests store n) (plain refused)
+      (store current : List ℕ) (n : ℕ) (g : Given) (r : List ℕ) → Shows store current n g r → FirstGiven (show_tests store n) g

@@ -1,5 +1,5 @@
 -- What a frame or an update asks of the box: the tests that it must pass, and what it then does.
-use Rattle.std.specs.Prelude.{ℕ, ◌+◌, ◌≤◌, Bool, List, [], ◌≡◌, get_or, replicate}
+use Rattle.std.specs.Prelude.{ℕ, ◌+◌, ◌≤◌, Bool, Option, None, Some, IfSome, List, [], ◌≡◌, get_or, replicate}
 use Rattle.frame.specs.Ground.{Test, all, given, pick}
 use Rattle.frame.specs.declared.given.Given.{Given}
 use Rattle.library.specs.Store.{stored}
@@ -57,7 +57,7 @@ pub record Obeys (o : Order) (m : List ℕ) (r : Given) (m' : List ℕ) : Type 0
   pub gives : r ≡ given o.tests
   pub state : m' ≡ left o m
 
--- Where the jet of the first data byte begins, and 0, where no jet begins, if it is not on the printer.
-pub record Places (p : Printer) (d : List ℕ) (r : ℕ) : Type 0 where
-  pub place : r ≡ pick (on_printer p d) (jet_place (jet_number d)) 0
-  pub inside : r + jet_size ≤ state_size
+-- Where the jet of the first data byte begins, if it is on the printer.
+pub record Places (p : Printer) (d : List ℕ) (r : Option ℕ) : Type 0 where
+  pub place : r ≡ pick (on_printer p d) (Some (jet_place (jet_number d))) None
+  pub inside : IfSome r (λ i. i + jet_size ≤ state_size)

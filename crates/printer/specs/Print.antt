@@ -7,11 +7,9 @@ use Rattle.content.specs.declared.strip.Values.{Values}
 use Rattle.calendar.specs.Clock.{entries}
 use Rattle.calendar.specs.DateChange.{printed}
 use Rattle.printer.specs.Number.{digits}
-use Rattle.printer.specs.Jet.{Jet, has_message, message, has_parameters, valid_jet, counted_jet}
+use Rattle.printer.specs.Jet.{Jet, has_message, message, has_parameters, counted_jet}
 use Rattle.printer.specs.State.{Printer, every_jet, with_jets}
 use Rattle.printer.specs.Order.{Order, unchanged}
-use Rattle.printer.specs.declared.jet.Question.{Question}
-use Rattle.printer.specs.declared.jet.Question.TheVariants.{Valid, Ready}
 
 -- 01, Numbers: 94h gets 11 with "either missing on any jet".
 abbrev pub ready_jet : Bool → Jet → Bool
@@ -19,11 +17,6 @@ ready_jet present j = unless present true (both (has_message j) (has_parameters 
 
 unfoldable pub ready : Printer → Bool
 ready p = every_jet ready_jet p
-
--- The two questions that are asked of every jet of a state.
-abbrev pub asked : Question → Bool → Jet → Bool
-asked Valid present j = valid_jet present j
-asked Ready present j = ready_jet present j
 
 -- What the items of a jet's message stand for, with the entries of the moment: the counter is the "value before this print".
 abbrev pub values : List ℕ → Jet → Values

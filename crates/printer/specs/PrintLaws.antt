@@ -2,12 +2,11 @@
 -- alone.
 use Rattle.std.specs.Prelude.{ℕ, ◌-◌, ◌≤◌, true, false, List, [], ◌∷◌, ◌++◌, ◌≡◌, length, get_or}
 use Rattle.frame.specs.Ground.{joined}
-use Rattle.content.specs.Content.{verdict}
+use Rattle.content.specs.Content.{good, verdict}
 use Rattle.content.specs.Grammar.{encode, resolved, shape}
 use Rattle.content.specs.Tree.{tree_of}
 use Rattle.content.specs.StripLaws.{Printable}
 use Rattle.content.specs.declared.strip.Values.{Values}
-use Rattle.content.specs.declared.test.Verdict.TheVariants.{Good}
 use Rattle.printer.specs.Jet.{Jet, has_jet, message}
 use Rattle.printer.specs.State.{Printer, jet_at, valid}
 use Rattle.calendar.specs.Clock.{entries}
@@ -24,7 +23,7 @@ ValuesPrintable = (c : Clock) (j : Jet) → Printable (values (entries c) j)
 pub record Means (v : Values) (s strip : List ℕ) : Type 0 where
   pub replaced : strip ≡ encode (resolved v (tree_of s))
   pub ends : (p : List ℕ) × (strip ≡ p ++ (0x0D ∷ []))
-  pub content : verdict strip ≡ Good
+  pub content : verdict strip ≡ good
   pub same_shape : shape (tree_of strip) ≡ shape (tree_of s)
 
 -- The strip of a jet, among those of all.

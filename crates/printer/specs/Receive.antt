@@ -1,9 +1,8 @@
 -- What the box makes of the bytes handed in: one outcome for every state, every buffer and all bytes.
-use Rattle.std.specs.Prelude.{ℕ, List, [], ◌∷◌, map, ◌≡◌, eqb, leb, length, take, drop}
-use Rattle.frame.specs.Ground.{Test, pick, plain, test, checked, joined, over}
+use Rattle.std.specs.Prelude.{ℕ, ◌≤◌, true, Option, None, List, [], ◌∷◌, map, ◌≡◌, eqb, leb, length, take, drop}
+use Rattle.frame.specs.Ground.{Test, pick, test, checked, joined, over}
 use Rattle.frame.specs.declared.given.Given.{Given}
-use Rattle.frame.specs.declared.given.Where.{Where}
-use Rattle.frame.specs.declared.given.Where.TheVariants.{Nowhere}
+use Rattle.frame.specs.Given.{given_in, given_of}
 use Rattle.frame.specs.Receive.{received}
 use Rattle.frame.specs.declared.receive.Received.{Received}
 use Rattle.frame.specs.declared.receive.Received.TheVariants.{Partial, Refused, Misfit, Enquiry, Update, Frame}
@@ -34,7 +33,7 @@ pub record Handed : Type 0 where
 -- Wish 4: a number "shall carry a place", where it has one.
 pub record Outcome : Type 0 where
   pub number : ℕ
-  pub place : Where
+  pub place : Option ℕ
   pub consumed : ℕ
   pub answer : List ℕ
   pub strips : List (List ℕ)
@@ -47,7 +46,7 @@ given_by o = record { number = o.number; place = o.place }
 -- 01, Numbers, 1 to 3: nothing consumed, no answer.
 abbrev pub silent : Printer → ℕ → Outcome
 silent p number =
-    record { number = number; place = Nowhere; consumed = 0; answer = []; strips = no_strips; printer = p; store = unchanged }
+    record { number = number; place = None; consumed = 0; answer = []; strips = no_strips; printer = p; store = unchanged }
 
 -- 01, Numbers, 4 to 13: "15h", and "the state stays, as for a number added later".
 abbrev pub refusal : Printer → Given → ℕ → Outcome
@@ -67,7 +66,7 @@ abbrev pub done : Order → ℕ → Outcome
 done o consumed =
     record {
       number = 0;
-      place = Nowhere;
+      place = None;
       consumed = consumed;
       answer = ack ∷ o.frame;
       strips = o.strips;
@@ -106,8 +105,8 @@ enquire p = change [] p
 -- What was received, in a valid state, with a well-formed store and buffers of the stated size.
 abbrev pub handled : Printer → List ℕ → List ℕ → Received → Outcome
 handled p store s Partial = silent p 3
-handled p store s (Refused number consumed) = refusal p (plain number) consumed
-handled p store s (Misfit number identifier n consumed) = refusal p (plain number) consumed
+handled p store s (Refused why consumed) = refusal p (given_of why) consumed
+handled p store s (Misfit why identifier n consumed) = refusal p (given_of why) consumed
 handled p store s Enquiry = obeyed p (enquire p) 1
 handled p store s (Update n consumed) = obeyed p (update_fields p (take n (drop 1 s))) consumed
 handled p store s (Frame identifier n consumed) = obeyed p (order p store identifier (take n (drop 3 s))) consumed
@@ -129,6 +128,13 @@ outcome m h =
     (λ (r : Given). silent (printer_of m) r.number)
     (handled (printer_of m) h.store h.bytes (received h.bytes))
 
+-- Where none of these applies, what was received is handled, and nothing of this is tested again.
+pub record Ready (m store answer strips : List ℕ) : Type 0 where
+  pub valid : valid_state m ≡ true
+  pub formed : valid_store store ≡ true
+  pub answer_room : answer_size ≤ length answer
+  pub strip_room : strips_size ≤ length strips
+
 -- The bytes of the state behind an outcome: "For 1 to 13 the state stays".
 abbrev pub kept : Outcome → List ℕ → List ℕ
 kept o m = pick (eqb o.number 0) (bytes_of o.printer) m
@@ -136,8 +142,7 @@ kept o m = pick (eqb o.number 0) (bytes_of o.printer) m
 -- What is handed back says what an outcome is; the state holds what the outcome left; the answer buffer holds the answer, the strip
 -- buffer the strips one behind the other, and behind them each holds what it held.
 pub record Meets (o : Outcome) (m answer strips : List ℕ) (r : Answered) (m' answer' strips' : List ℕ) : Type 0 where
-  pub gives : r.number ≡ o.number
-  pub places : r.place ≡ o.place
+  pub gives : given_in r.outcome ≡ given_by o
   pub consumes : r.consumed ≡ o.consumed
   pub answers : r.answer ≡ length o.answer
   pub prints : r.strips ≡ map length o.strips

@@ -1,7 +1,7 @@
 -- What the frames 39h, 43h, 52h and D6h ask, and the frame that is answered behind the 06h.
 use Rattle.std.specs.Prelude.{ℕ, List, [], ◌∷◌, ◌++◌}
 use Rattle.frame.specs.Ground.{Test, both, test}
-use Rattle.frame.specs.Build.{frame}
+use Rattle.frame.specs.Build.{Built, frame}
 use Rattle.calendar.specs.Clock.{clock_text}
 use Rattle.calendar.specs.DateChange.{table_text}
 use Rattle.printer.specs.Counter.{counter_text}
@@ -9,7 +9,6 @@ use Rattle.printer.specs.Jet.{Jet, has_message, message, has_parameters, paramet
 use Rattle.printer.specs.State.{Printer}
 use Rattle.printer.specs.Order.{Order, tell, on_printer, jet_in}
 use Rattle.printer.specs.Answer.{Tells}
-use Rattle.printer.specs.declared.request.Told.{Told}
 use Rattle.printer.specs.declared.request.Request.{Request}
 use Rattle.printer.specs.declared.request.Request.TheVariants.{Counter, Message}
 
@@ -41,5 +40,5 @@ unfoldable pub ask_clock : Printer → Order
 ask_clock p = tell [] p (frame 0x9C (clock_text p.clock))
 
 -- What is told of a jet's bytes.
-abbrev pub TellsJet : Request → List ℕ → List ℕ → Told → List ℕ → Type 0
+abbrev pub TellsJet : Request → List ℕ → List ℕ → Built → List ℕ → Type 0
 TellsJet what b before r after = Tells (request_tests what (jet_of b)) (requested what (jet_of b)) before r after

@@ -2,6 +2,7 @@
 use Rattle.std.specs.Prelude.{ℕ, List, [], ◌∷◌, ◌++◌, ◌≡◌, leb, length, take}
 use Rattle.frame.specs.Ground.{Test, test, checked}
 use Rattle.frame.specs.declared.given.Given.{Given}
+use Rattle.frame.specs.declared.given.Refusal.{Refusal}
 use Rattle.frame.specs.Receive.{received}
 use Rattle.frame.specs.Holding.{buffer_behind, holding_behind, is_holding}
 use Rattle.frame.specs.declared.holding.Holding.{Holding}
@@ -64,11 +65,11 @@ single m h =
 -- The contract of `counted`: what is handed back of a byte that is taken.
 abbrev pub counted : Answered → Answered
 counted a =
-    record { number = a.number; place = a.place; consumed = 1; answer = a.answer; strips = a.strips }
+    record { outcome = a.outcome; consumed = 1; answer = a.answer; strips = a.strips }
 
 -- The contract of `untaken`: 1 and 2 "leave the byte untaken", and what was held stays.
-pub record Untaken (number : ℕ) (holding : Holding) (r : Taken) : Type 0 where
-  pub answered : Silent number r.answered
+pub record Untaken (why : Refusal) (holding : Holding) (r : Taken) : Type 0 where
+  pub answered : Silent why r.answered
   pub holds : r.holding ≡ holding
 
 -- The contracts of `take_held` and `take_byte`: what the first receiver's answer is of an outcome, what is held behind the byte, and the

@@ -1,6 +1,8 @@
 -- Every contract has one outcome: two that meet it for the same inputs have the same answer and the same bytes after.
-use Rattle.std.specs.Prelude.{ℕ, List, ◌≡◌}
-use Rattle.frame.specs.Ground.{OneOutcome, plain}
+use Rattle.std.specs.Prelude.{ℕ, Result, List, ◌≡◌}
+use Rattle.frame.specs.Ground.{OneOutcome}
+use Rattle.frame.specs.Given.{given_in}
+use Rattle.frame.specs.declared.given.Refusal.{Refusal}
 use Rattle.printer.specs.Order.{Order, Obeys}
 use Rattle.printer.specs.Messages.{Shows}
 use Rattle.printer.specs.Receive.{Receives}
@@ -14,7 +16,7 @@ use Rattle.printer.specs.declared.single.Taken.{Taken}
 
 -- `fresh`.
 abbrev pub FreshensUnique : Type 0
-FreshensUnique = (m : List ℕ) (model : ℕ) (clock : Clock) → OneOutcome (Freshens m model clock)
+FreshensUnique = (m : List ℕ) (model : ℕ) (clock : Clock) → OneOutcome (λ (r : Result Unit Refusal). Freshens m model clock (given_in r))
 
 -- The calls `set_clock`, `set_date_change` and `tick` obey the orders of `Call` that are named `set_clock`, `set_date_change` and `tick_clock`, and of
 -- every order this is true.
@@ -22,13 +24,13 @@ abbrev pub ObeysUnique : Type 0
 ObeysUnique = (o : Order) (m : List ℕ) → OneOutcome (Obeys o m)
 
 abbrev pub SetClockUnique : Type 0
-SetClockUnique = (m : List ℕ) (clock : Clock) → OneOutcome (λ (r : ℕ). Obeys (set_clock m clock) m (plain r))
+SetClockUnique = (m : List ℕ) (clock : Clock) → OneOutcome (λ (r : Result Unit Refusal). Obeys (set_clock m clock) m (given_in r))
 
 abbrev pub SetDateChangeUnique : Type 0
-SetDateChangeUnique = (m : List ℕ) (time : TimeOfDay) → OneOutcome (λ (r : ℕ). Obeys (set_date_change m time) m (plain r))
+SetDateChangeUnique = (m : List ℕ) (time : TimeOfDay) → OneOutcome (λ (r : Result Unit Refusal). Obeys (set_date_change m time) m (given_in r))
 
 abbrev pub TickUnique : Type 0
-TickUnique = (m : List ℕ) → OneOutcome (λ (r : ℕ). Obeys (tick_clock m) m (plain r))
+TickUnique = (m : List ℕ) → OneOutcome (λ (r : Result Unit Refusal). Obeys (tick_clock m) m (given_in r))
 
 -- `receive`: number, count, answer's length and strips' lengths are one answer; then the bytes of the state, of the store and of the two
 -- buffers.

@@ -1,11 +1,11 @@
 // A counter, over its 34 bytes: 26 of settings, whether it is set, value (4), batch (3).
-ghost use Rattle.std.specs.Prelude.{◌+◌, ◌<◌, ◌≤◌, ltb, drop, length, take, ◌++◌, true, ◌≡◌};
-ghost use Rattle.printer.specs.Counter.{all_digits_in, batch_size, counted, counter_bytes, counter_of, counter_size, counter_text, final, good_settings, grown, initial, is_set, lot, next_batch, next_value, set_to, settings_size, step, valid_counter, value_place, value_size};
+ghost use Rattle.std.specs.Prelude.{◌+◌, ◌<◌, ◌≤◌, ◌^◌, List, ℕ, length, ltb, take, ◌++◌, true, ◌≡◌};
+ghost use Rattle.printer.specs.Counter.{batch_size, counted, counter_bytes, counter_of, counter_size, counter_text, good_settings, is_set, set_to, settings_size, valid_counter, value_place, value_size};
+ghost use Rattle.std.specs.List.{list_all};
 ghost use Rattle.frame.specs.Ground.{both, within};
-ghost use Rattle.printer.specs.Number.{all_digits, digits, in_bytes, value};
+ghost use Rattle.printer.specs.Number.{all_digits, in_bytes, is_digit, value};
 
 use crate::number::{digits, four_bytes, is_digit, three_bytes};
-use frame::build::lay;
 
 pub(crate) const SETTINGS: usize = 26;
 
@@ -16,119 +16,159 @@ const BATCH_AT: usize = VALUE_AT + 4;
 
 pub(crate) const COUNTER: usize = BATCH_AT + 3;
 
-// What count digits from a place on come to.
-fn value_at(q: &[u8], from: usize, count: usize) -> u32
-    requires { (from + count ≤ length q.now) × (count ≤ 9) × (all_digits (take count (drop from q.now)) ≡ true) }
-    ensures { (result ≡ value (take count (drop from q.now))) × (result < 1000000000) }
+// What good settings say; a value has room for a step behind it.
+#[derive(Clone, Copy, Debug, PartialEq, Eq)]
+struct Settings {
+    initial: u32,
+    last: u32,
+    step: u32,
+    lot: u32,
+    ghost small: { last + step < 2 ^ 32 },
+}
+
+// Whether all bytes are digits.
+fn all_digits(s: &[u8]) -> bool
+    ensures { result ≡ list_all is_digit s.now }
 {
-    let mut n: u32 = 0;
-    let mut i = 0;
-    while i < count {
-        n = n * 10 + ((q[from + i] - 0x30) as u32);
-        i += 1;
+    s.iter().all(|b| is_digit(*b))
+}
+
+// What at most nine digits come to.
+fn value_of(s: &[u8]) -> u32
+    requires { (length s.now ≤ 9) × (all_digits s.now ≡ true) }
+    ensures { (result ≡ value s.now) × (result < 1000000000) }
+{
+    let mut n = 0;
+    for b in s {
+        n = n * 10 + u32::from(b - 0x30);
     }
     n
 }
 
-fn initial(q: &[u8]) -> u32
-    requires { (length q.now ≡ settings_size) × (all_digits_in q.now ≡ true) }
-    ensures { (result ≡ initial q.now) × (result < 1000000000) }
-{
-    value_at(q, 1, 9)
-}
+impl Settings {
+    ghost use Rattle.printer.specs.Settings.{Reads, Says};
+    ghost use Rattle.printer.specs.Counter.{next_batch, next_value};
 
-fn final_of(q: &[u8]) -> u32
-    requires { (length q.now ≡ settings_size) × (all_digits_in q.now ≡ true) }
-    ensures { (result ≡ final q.now) × (result < 1000000000) }
-{
-    value_at(q, 10, 9)
-}
-
-fn step(q: &[u8]) -> u32
-    requires { (length q.now ≡ settings_size) × (all_digits_in q.now ≡ true) }
-    ensures { (result ≡ step q.now) × (result < 1000000000) }
-{
-    value_at(q, 19, 2)
-}
-
-fn lot(q: &[u8]) -> u32
-    requires { length q.now ≡ settings_size }
-    ensures { (result ≡ lot q.now) × (result < 16777216) }
-{
-    three_bytes(q, 21)
-}
-
-// Whether initial, final and step are digits.
-fn all_digits_in(q: &[u8]) -> bool
-    requires { length q.now ≡ settings_size }
-    ensures { result ≡ all_digits_in q.now }
-{
-    let mut i = 1;
-    while i < 21 {
-        if !is_digit(q[i]) {
-            return false;
+    // What settings say, if they are good: control (1), initial (9), final (9), step (2), lot (3), postdate (2).
+    #[tactic(auto, using(frame::proofs::Ground::tests, crate::proofs::Numbers::all_digits_listed), unfolding(crate::specs::Counter::good_settings))]
+    fn read(q: &[u8]) -> Option<Settings>
+        requires { length q.now ≡ settings_size }
+        ensures { Reads q.now result }
+    {
+        if q[0] != 0x89 || !all_digits(&q[1..21]) {
+            return None;
         }
-        i += 1;
+        let initial = value_of(&q[1..10]);
+        let last = value_of(&q[10..19]);
+        let step = value_of(&q[19..21]);
+        let lot = three_bytes(q, 21);
+        if last < initial || step < 1 || lot < 1 {
+            return None;
+        }
+        Some(Settings {
+            initial,
+            last,
+            step,
+            lot,
+        })
     }
-    true
+
+    // Whether a value lies from initial to final, and a batch below lot.
+    fn counts(self, value: u32, batch: u32) -> bool
+        ensures { result ≡ both (within self.initial self.last value) (ltb batch self.lot) }
+    {
+        (self.initial..=self.last).contains(&value) && batch < self.lot
+    }
+
+    // The value and the batch behind a print.
+    #[tactic(auto, using(frame::proofs::Ground::tests), unfolding(crate::specs::Counter::next_value, crate::specs::Counter::next_batch, crate::specs::Counter::grown))]
+    fn next(self, value: u32, batch: u32) -> (u32, u32)
+        requires { (value ≤ self.last) × (batch < self.lot) }
+        ensures value { (q : List ℕ) → Says q self → result.0 ≡ next_value q value batch }
+        ensures batch { (q : List ℕ) → Says q self → result.1 ≡ next_batch q batch }
+    {
+        if batch + 1 < self.lot {
+            return (value, batch + 1);
+        }
+        let next = value + self.step;
+        if next <= self.last {
+            (next, 0)
+        } else {
+            (self.initial, 0)
+        }
+    }
 }
 
 pub(crate) fn good_settings(q: &[u8]) -> bool
     requires { length q.now ≡ settings_size }
     ensures { result ≡ good_settings q.now }
 {
-    if q[0] != 0x89 {
-        return false;
-    }
-    if !all_digits_in(q) {
-        return false;
-    }
-    if final_of(q) < initial(q) {
-        return false;
-    }
-    if step(q) < 1 {
-        return false;
-    }
-    1 <= lot(q)
+    Settings::read(q).is_some()
 }
 
-pub(crate) fn is_set(c: &[u8]) -> bool
-    requires { length c.now ≡ counter_size }
-    ensures { result ≡ is_set (counter_of c.now) }
+// A batch as it lies in a counter: three bytes.
+fn batch_bytes(batch: u32) -> [u8; 3]
+    ensures { result ≡ in_bytes batch_size batch }
 {
-    c[SETTINGS] == 1
+    let [_, high, middle, low] = batch.to_be_bytes();
+    [high, middle, low]
 }
 
-// Whether a value lies from initial to final, and a batch below lot.
-fn counts(q: &[u8], value: u32, batch: u32) -> bool
-    requires { (length q.now ≡ settings_size) × (all_digits_in q.now ≡ true) }
-    ensures { result ≡ both (within (initial q.now) (final q.now) value) (ltb batch (lot q.now)) }
-{
-    if value < initial(q) {
-        return false;
-    }
-    if final_of(q) < value {
-        return false;
-    }
-    batch < lot(q)
+// The bytes of a counter, lent to be read.
+#[derive(Clone, Copy)]
+pub(crate) struct CounterBytes<'a> {
+    pub(crate) bytes: &'a [u8],
+    ghost sized: { length bytes.now ≡ counter_size },
 }
 
-// Whether a counter is one that a valid state may hold.
-pub(crate) fn valid_counter(c: &[u8]) -> bool
-    requires { length c.now ≡ counter_size }
-    ensures { result ≡ valid_counter (counter_of c.now) }
-{
-    if 1 < c[SETTINGS] {
-        return false;
+impl<'a> CounterBytes<'a> {
+    #[tactic(auto, unfolding(crate::specs::Counter::counter_of))]
+    pub(crate) fn is_set(self) -> bool
+        ensures { result ≡ is_set (counter_of self.entry.bytes.now) }
+    {
+        self.bytes[SETTINGS] == 1
     }
-    if !is_set(c) {
-        return true;
+
+    // What it shows.
+    #[tactic(auto, unfolding(crate::specs::Counter::counter_of))]
+    pub(crate) fn value(self) -> u32
+        ensures { result ≡ (counter_of self.entry.bytes.now).value }
+    {
+        four_bytes(self.bytes, VALUE_AT)
     }
-    let q = &c[..SETTINGS];
-    if !good_settings(q) {
-        return false;
+
+    #[tactic(auto, unfolding(crate::specs::Counter::counter_of))]
+    fn batch(self) -> u32
+        ensures { result ≡ (counter_of self.entry.bytes.now).batch }
+    {
+        three_bytes(self.bytes, BATCH_AT)
     }
-    counts(q, four_bytes(c, VALUE_AT), three_bytes(c, BATCH_AT))
+
+    // Whether it is one that a valid state may hold.
+    #[tactic(auto, using(frame::proofs::Ground::tests, crate::proofs::Counters::settings_long), unfolding(crate::specs::Counter::counter_of, crate::specs::Counter::valid_counter))]
+    pub(crate) fn is_valid(self) -> bool
+        ensures { result ≡ valid_counter (counter_of self.entry.bytes.now) }
+    {
+        // A match in a match: with `is_some_and` the proof stops at a limit, or value and batch are read first, 13 in 100 more.
+        match self.bytes[SETTINGS] {
+            0 => true,
+            1 => match Settings::read(&self.bytes[..SETTINGS]) {
+                Some(settings) => settings.counts(self.value(), self.batch()),
+                None => false,
+            },
+            _ => false,
+        }
+    }
+
+    // 39h's data: nine digits and three bytes.
+    pub(crate) fn text(self) -> [u8; 12]
+        ensures { result ≡ counter_text (counter_of self.entry.bytes.now) }
+    {
+        let mut text = [0; 12];
+        text[..9].copy_from_slice(&digits(self.value()));
+        text[9..].copy_from_slice(&batch_bytes(self.batch()));
+        text
+    }
 }
 
 // Writes a value and a batch behind the settings.
@@ -136,103 +176,32 @@ fn put_count(c: &mut [u8], value: u32, batch: u32)
     requires { length c.old ≡ counter_size }
     ensures { c.new ≡ take value_place c.old ++ (in_bytes value_size value ++ in_bytes batch_size batch) }
 {
-    c[VALUE_AT] = (value / 256 / 256 / 256 % 256) as u8;
-    c[VALUE_AT + 1] = (value / 256 / 256 % 256) as u8;
-    c[VALUE_AT + 2] = (value / 256 % 256) as u8;
-    c[VALUE_AT + 3] = (value % 256) as u8;
-    c[BATCH_AT] = (batch / 256 / 256 % 256) as u8;
-    c[BATCH_AT + 1] = (batch / 256 % 256) as u8;
-    c[BATCH_AT + 2] = (batch % 256) as u8;
+    c[VALUE_AT..BATCH_AT].copy_from_slice(&value.to_be_bytes());
+    c[BATCH_AT..].copy_from_slice(&batch_bytes(batch));
 }
 
 // A counter with other settings: it counts from the start.
+#[tactic(auto, using(crate::proofs::Counters::settings_long))]
 pub(crate) fn set_to(c: &mut [u8], q: &[u8])
     requires { (length c.old ≡ counter_size) × (length q.now ≡ settings_size) × (good_settings q.now ≡ true) }
     ensures { c.new ≡ counter_bytes (set_to q.now) }
 {
-    lay(c, q);
+    c[..SETTINGS].copy_from_slice(q);
     c[SETTINGS] = 1;
-    put_count(c, initial(q), 0);
-}
-
-// The batch behind a print.
-fn next_batch(q: &[u8], batch: u32) -> u32
-    requires { (length q.now ≡ settings_size) × (batch < lot q.now) }
-    ensures { result ≡ next_batch q.now batch }
-{
-    let size = lot(q);
-    if batch + 1 < size {
-        return batch + 1;
-    }
-    0
-}
-
-fn grown(q: &[u8], value: u32) -> u32
-    requires { (length q.now ≡ settings_size) × (all_digits_in q.now ≡ true) × (value ≤ final q.now) }
-    ensures { result ≡ grown q.now value }
-{
-    let last = final_of(q);
-    let next = value + step(q);
-    if next <= last {
-        return next;
-    }
-    initial(q)
-}
-
-// The value behind a print.
-fn next_value(q: &[u8], value: u32, batch: u32) -> u32
-    requires { (length q.now ≡ settings_size) × (all_digits_in q.now ≡ true) × (value ≤ final q.now) × (batch < lot q.now) }
-    ensures { result ≡ next_value q.now value batch }
-{
-    let size = lot(q);
-    if batch + 1 < size {
-        return value;
-    }
-    grown(q, value)
+    put_count(c, Settings::read(q).unwrap().initial, 0);
 }
 
 // A counter counts a print, where it is set.
+#[tactic(auto, using(crate::proofs::Counters::settings_long))]
 pub(crate) fn count(c: &mut [u8])
     requires { (length c.old ≡ counter_size) × (valid_counter (counter_of c.old) ≡ true) }
     ensures { c.new ≡ counter_bytes (counted (counter_of c.old)) }
 {
-    if !is_set(c) {
+    let counter = CounterBytes { bytes: c };
+    if !counter.is_set() {
         return;
     }
-    let value = four_bytes(c, VALUE_AT);
-    let batch = three_bytes(c, BATCH_AT);
-    let q = &c[..SETTINGS];
-    let next = next_value(q, value, batch);
-    let more = next_batch(q, batch);
-    put_count(c, next, more);
-}
-
-// 39h's data: nine digits and three bytes.
-pub(crate) fn counter_text(c: &[u8]) -> [u8; 12]
-    requires { length c.now ≡ counter_size }
-    ensures { result ≡ counter_text (counter_of c.now) }
-{
-    let d = digits(four_bytes(c, VALUE_AT));
-    [
-        d[0],
-        d[1],
-        d[2],
-        d[3],
-        d[4],
-        d[5],
-        d[6],
-        d[7],
-        d[8],
-        c[BATCH_AT],
-        c[BATCH_AT + 1],
-        c[BATCH_AT + 2],
-    ]
-}
-
-// What a counter shows.
-pub(crate) fn value(c: &[u8]) -> u32
-    requires { length c.now ≡ counter_size }
-    ensures { result ≡ (counter_of c.now).value }
-{
-    four_bytes(c, VALUE_AT)
+    let settings = Settings::read(&counter.bytes[..SETTINGS]).unwrap();
+    let (value, batch) = settings.next(counter.value(), counter.batch());
+    put_count(c, value, batch);
 }

@@ -28,38 +28,28 @@ pub(crate) fn digits(n: u32) -> [u8; 9]
     while i < 10 {
         let power = powers[i];
         if power <= left {
-            left = left - power;
-            row[i] = row[i] + 1;
+            left -= power;
+            row[i] += 1;
         } else {
-            i = i + 1;
+            i += 1;
         }
     }
-    [
-        row[1], row[2], row[3], row[4], row[5], row[6], row[7], row[8], row[9],
-    ]
+    <[u8; 9]>::try_from(&row[1..]).unwrap()
 }
 
+#[tactic(auto, unfolding(crate::specs::Number::is_digit))]
 pub(crate) fn is_digit(b: u8) -> bool
     ensures { result ≡ is_digit b }
 {
-    if b < 0x30 {
-        return false;
-    }
-    b <= 0x39
+    b.is_ascii_digit()
 }
 
-fn wide(b: u8) -> u32
-    ensures { (result ≡ b) × (result ≤ 255) }
-{
-    b as u32
-}
-
-// What three bytes from a place on come to, the high byte first.
+// What three bytes from a place on come to, the high byte first. One for each width: one over the width would be a loop.
 pub(crate) fn three_bytes(s: &[u8], at: usize) -> u32
     requires { at + 3 ≤ length s.now }
     ensures { (result ≡ number_of (take 3 (drop at s.now))) × (result < 16777216) }
 {
-    (wide(s[at]) * 256 + wide(s[at + 1])) * 256 + wide(s[at + 2])
+    u32::from_be_bytes([0, s[at], s[at + 1], s[at + 2]])
 }
 
 // The same for four.
@@ -67,5 +57,5 @@ pub(crate) fn four_bytes(s: &[u8], at: usize) -> u32
     requires { at + 4 ≤ length s.now }
     ensures { result ≡ number_of (take 4 (drop at s.now)) }
 {
-    three_bytes(s, at) * 256 + wide(s[at + 3])
+    u32::from_be_bytes([s[at], s[at + 1], s[at + 2], s[at + 3]])
 }

@@ -1,13 +1,12 @@
 // The state: one lent slice, and the only room that knows where in it the type, the clock, the date change and each jet lie.
 ghost use Rattle.std.specs.Prelude.{◌+◌, ◌≤◌, length, set, ◌≡◌};
-ghost use Rattle.printer.specs.Print.{asked, ready};
-ghost use Rattle.printer.specs.State.{bytes_of, every_jet, fresh_printer, jet_place, printer_of, state_size, valid_state, with_clock};
-ghost use Rattle.printer.specs.Jet.{jet_size};
+ghost use Rattle.printer.specs.Print.{ready};
+ghost use Rattle.printer.specs.State.{bytes_of, fresh_printer, jet_at, jet_place, printer_of, state_size, valid, valid_jets, valid_state, with_clock};
+ghost use Rattle.printer.specs.Jet.{jet_of, jet_size};
 
-use crate::jet::{JET, JetNumber, Question, asked, has_jet, jet_index, jet_number};
-use calendar::clock::{Clock, Date};
+use crate::jet::{JET, JetBytes, JetNumber, has_jet, jet_index, jet_number};
+use calendar::clock::{Clock, date_of, moment};
 use calendar::date_change::{TimeOfDay, time_of_day};
-use content::byte::within;
 
 // Where the first jet begins, behind type, seconds, minutes, hours, day, month and year, and the date change's hour and minute (1 each).
 pub(crate) const JETS: usize = 9;
@@ -23,46 +22,87 @@ pub(crate) fn jet_place(n: JetNumber) -> usize
     JETS + JET * jet_index(n)
 }
 
-pub(crate) fn model(state: &[u8]) -> u8
-    requires { length state.now ≡ state_size }
-    ensures { result ≡ (printer_of state.now).model }
-{
-    state[0]
+// The bytes of a state, lent to be read.
+#[derive(Clone, Copy)]
+pub(crate) struct StateBytes<'a> {
+    pub(crate) bytes: &'a [u8],
+    ghost sized: { length bytes.now ≡ state_size },
 }
 
-// The clock, read out.
-pub(crate) fn clock(state: &[u8]) -> Clock
-    requires { length state.now ≡ state_size }
-    ensures { result ≡ (printer_of state.now).clock }
-{
-    Clock {
-        second: state[1],
-        minute: state[2],
-        hour: state[3],
-        date: Date {
-            day: state[4],
-            month: state[5],
-            year: state[6],
-        },
+impl<'a> StateBytes<'a> {
+    #[tactic(auto, unfolding(crate::specs::State::printer_of))]
+    pub(crate) fn model(self) -> u8
+        ensures { result ≡ (printer_of self.entry.bytes.now).model }
+    {
+        self.bytes[0]
+    }
+
+    pub(crate) fn clock(self) -> Clock
+        ensures { result ≡ (printer_of self.entry.bytes.now).clock }
+    {
+        let b = self.bytes;
+        moment(b[1], b[2], b[3], date_of(b[4], b[5], b[6]))
+    }
+
+    pub(crate) fn date_change(self) -> TimeOfDay
+        ensures { result ≡ (printer_of self.entry.bytes.now).date_change }
+    {
+        time_of_day(self.bytes[7], self.bytes[8])
+    }
+
+    // The bytes of a jet.
+    fn jet(self, n: JetNumber) -> JetBytes<'a>
+        requires { (1 ≤ n.0) × (n.0 ≤ 4) }
+        ensures { jet_of result.bytes.now ≡ jet_at (printer_of self.entry.bytes.now) n.0 }
+    {
+        let at = jet_place(n);
+        JetBytes {
+            bytes: &self.bytes[at..at + JET],
+        }
+    }
+
+    // Whether every jet holds what a valid state may hold.
+    fn are_jets_valid(self) -> bool
+        ensures { result ≡ valid_jets (printer_of self.entry.bytes.now) }
+    {
+        let model = self.model();
+        (1..5).all(|k| {
+            let n = jet_number(k);
+            let present = has_jet(model, n);
+            self.jet(n).is_valid(present)
+        })
+    }
+
+    #[tactic(auto, using(frame::proofs::Ground::tests), unfolding(crate::specs::State::valid))]
+    fn is_valid(self) -> bool
+        ensures { result ≡ valid (printer_of self.entry.bytes.now) }
+    {
+        (1..=4).contains(&self.model())
+            && self.clock().is_real()
+            && self.date_change().is_time()
+            && self.are_jets_valid()
+    }
+
+    // Whether each jet of the printer has a message and parameters. A chain of its own beside that of `are_jets_valid`: a function over the question
+    // would have a longer contract than either.
+    pub(crate) fn is_ready(self) -> bool
+        ensures { result ≡ ready (printer_of self.entry.bytes.now) }
+    {
+        let model = self.model();
+        (1..5).all(|k| {
+            let n = jet_number(k);
+            let present = has_jet(model, n);
+            self.jet(n).is_ready(present)
+        })
     }
 }
 
-// The date change, read out.
-pub(crate) fn date_change(state: &[u8]) -> TimeOfDay
-    requires { length state.now ≡ state_size }
-    ensures { result ≡ (printer_of state.now).date_change }
+// Whether bytes are a state that the box can be in.
+#[tactic(auto, using(frame::proofs::Ground::tests), unfolding(crate::specs::State::valid_state))]
+pub(crate) fn valid_state(state: &[u8]) -> bool
+    ensures { result ≡ valid_state state.now }
 {
-    time_of_day(state[7], state[8])
-}
-
-// The date, written back.
-fn put_date(state: &mut [u8], date: Date)
-    requires { length state.old ≡ state_size }
-    ensures { state.new ≡ set (set (set state.old 4 date.day) 5 date.month) 6 date.year }
-{
-    state[4] = date.day;
-    state[5] = date.month;
-    state[6] = date.year;
+    state.len() == STATE && StateBytes { bytes: state }.is_valid()
 }
 
 // The clock, written back.
@@ -70,10 +110,13 @@ pub(crate) fn put_clock(state: &mut [u8], clock: Clock)
     requires { length state.old ≡ state_size }
     ensures { state.new ≡ bytes_of (with_clock (printer_of state.old) clock) }
 {
-    state[1] = clock.second;
-    state[2] = clock.minute;
-    state[3] = clock.hour;
-    put_date(state, clock.date);
+    let Clock {
+        second,
+        minute,
+        hour,
+        date,
+    } = clock;
+    state[1..7].copy_from_slice(&[second, minute, hour, date.day, date.month, date.year]);
 }
 
 // The date change, written back.
@@ -85,64 +128,12 @@ pub(crate) fn put_date_change(state: &mut [u8], time: TimeOfDay)
     state[8] = time.minute;
 }
 
-// Whether every jet of a state answers a question with yes.
-fn every_jet(state: &[u8], question: Question) -> bool
-    requires { length state.now ≡ state_size }
-    ensures { result ≡ every_jet (asked question) (printer_of state.now) }
-{
-    let model = state[0];
-    let mut n = 1;
-    let mut at = JETS;
-    while n <= 4 {
-        let end = at + JET;
-        if !asked(question, has_jet(model, jet_number(n)), &state[at..end]) {
-            return false;
-        }
-        n += 1;
-        at = end;
-    }
-    true
-}
-
-// Whether bytes are a state that the box can be in.
-pub(crate) fn valid_state(state: &[u8]) -> bool
-    ensures { result ≡ valid_state state.now }
-{
-    if state.len() != STATE {
-        return false;
-    }
-    if !within(1, 4, state[0]) {
-        return false;
-    }
-    let now = clock(state);
-    if !now.is_real() {
-        return false;
-    }
-    let change = date_change(state);
-    if !change.is_time() {
-        return false;
-    }
-    every_jet(state, Question::Valid)
-}
-
-// Whether each jet of the printer has a message and parameters.
-pub(crate) fn ready(state: &[u8]) -> bool
-    requires { length state.now ≡ state_size }
-    ensures { result ≡ ready (printer_of state.now) }
-{
-    every_jet(state, Question::Ready)
-}
-
 // A printer of a type at a moment, with the date change at midnight and empty jets.
 pub(crate) fn put_fresh(state: &mut [u8], model: u8, clock: Clock)
     requires { length state.old ≡ state_size }
     ensures { state.new ≡ bytes_of (fresh_printer model clock) }
 {
-    let mut i = 0;
-    while i < STATE {
-        state[i] = 0;
-        i += 1;
-    }
+    state.fill(0);
     state[0] = model;
     put_clock(state, clock);
 }

@@ -2,7 +2,7 @@
 #![tactic(auto)]
 
 mod aboard;
-mod call;
+mod bench;
 mod lower;
 mod shelf;
 mod show;

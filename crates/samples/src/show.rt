@@ -1,89 +1,69 @@
 // Writing the outcome behind a line: numbers in decimal, a place behind a colon, bytes in capital hex.
-ghost use Rattle.std.specs.Prelude.{◌<◌, length};
-
-use frame::given::{Given, Where};
+use frame::given::Given;
 
 pub(crate) fn text(s: &[u8]) {
     io::write_all(1, s);
 }
 
+// A cast: std has no `From` of a `usize` for it.
 pub(crate) fn count(n: usize) {
     io::print_decimal(1, n as u64);
 }
 
-pub(crate) fn number(n: u8) {
+pub(crate) fn large(n: u64) {
     text(b" ");
-    count(n as usize);
+    io::print_decimal(1, n);
+}
+
+pub(crate) fn number(n: u8) {
+    large(u64::from(n));
+}
+
+pub(crate) fn size(n: usize) {
+    text(b" ");
+    count(n);
 }
 
 // A number, and where it has a place a colon and the place.
 pub(crate) fn given(what: Given) {
     number(what.number);
-    let place = what.place;
-    match place {
-        Where::Nowhere => {}
-        Where::At(i) => {
-            text(b":");
-            count(i);
-        }
+    if let Some(i) = what.place {
+        text(b":");
+        count(i);
     }
 }
 
 // The first n bytes of a buffer, all of them where it has fewer.
 pub(crate) fn front(buffer: &[u8], n: usize) -> &[u8] {
-    if buffer.len() < n {
-        return buffer;
-    }
-    &buffer[0..n]
+    buffer.get(..n).unwrap_or(buffer)
 }
 
-fn hex_digit(n: u8) -> u8
-    requires { n < 16 }
-{
-    if n < 10 {
-        return n + 0x30;
-    }
-    n + 0x37
-}
+const HEX: &[u8; 16] = b"0123456789ABCDEF";
 
 fn byte(b: u8) {
-    let digits = [0x20, hex_digit(b / 16), hex_digit(b % 16)];
-    text(&digits);
+    text(&[b' ', HEX[usize::from(b / 16)], HEX[usize::from(b % 16)]]);
 }
 
-// Where the bytes that equal the one at a place end.
-fn run_end(s: &[u8], from: usize, b: u8) -> usize {
-    let mut at = from;
-    while at < s.len() {
-        if s[at] != b {
-            return at;
+// Equal bytes: each by itself, but 16 or more as the table has them.
+fn equal(run: &[u8]) {
+    match run {
+        [first, ..] if run.len() >= 16 => {
+            byte(*first);
+            text(b"*");
+            count(run.len());
         }
-        at += 1;
+        _ => {
+            for &b in run {
+                byte(b);
+            }
+        }
     }
-    at
-}
-
-// Writes the byte at a place, or from there on 16 or more equal ones as the table has them, and hands back the place behind.
-fn some(s: &[u8], at: usize) -> usize
-    requires { at < length s.now }
-    ensures { at < result }
-{
-    let b = s[at];
-    byte(b);
-    let end = run_end(s, at, b);
-    if end < at + 16 {
-        return at + 1;
-    }
-    text(b"*");
-    count(end - at);
-    end
 }
 
 // Bytes, each behind a space.
 pub(crate) fn bytes(s: &[u8]) {
-    let mut at = 0;
-    while at < s.len() {
-        at = some(s, at);
+    for run in s.chunk_by(|a, b| a == b) {
+        equal(run);
     }
 }
 
@@ -92,27 +72,5 @@ pub(crate) const UNWRITTEN: u8 = 0xEE;
 
 // Whether no byte of a buffer was written from a place on.
 pub(crate) fn unwritten(buffer: &[u8], from: usize) -> bool {
-    let mut at = from;
-    while at < buffer.len() {
-        if buffer[at] != UNWRITTEN {
-            return false;
-        }
-        at += 1;
-    }
-    true
-}
-
-// Whether two buffers of one size have the same bytes.
-pub(crate) fn same(a: &[u8], b: &[u8]) -> bool {
-    let mut at = 0;
-    while at < a.len() {
-        if b.len() <= at {
-            return false;
-        }
-        if a[at] != b[at] {
-            return false;
-        }
-        at += 1;
-    }
-    true
+    buffer.iter().skip(from).all(|b| *b == UNWRITTEN)
 }

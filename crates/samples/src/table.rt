@@ -1,473 +1,177 @@
 // The lines of the table, one after the other: what each of them says, and the call that it makes.
-ghost use Rattle.std.specs.Prelude.{◌≤◌, length};
-
-use crate::aboard::{aboard, make_up};
-use crate::call::{
-    ANSWERS, ROOM, Rooms, SPACE, STRIPS, change, every_call, frame, hand_in, night, pass, set,
-    start, tested,
-};
-use crate::lower::{
-    BUFFER, Way, show_answer, show_build, show_change, show_lay, show_line, show_positions,
-    show_put, show_strip, show_wrap,
-};
-use crate::shelf::{asked, prepared};
-use crate::show::{UNWRITTEN, front, same, text, unwritten};
-use crate::single::{HELD, is_single, singly};
-use crate::text::{BYTES, begins, byte_at, bytes_in, number, small};
-use calendar::clock::{Clock, Date};
-use calendar::date_change::time_of_day;
-use content::byte::within;
-use frame::build::lay;
-use frame::given::{placed, plain};
+use crate::aboard::{make_up, show_instant, show_silence, show_start};
+use crate::bench::{ANSWERS, Bench, HELD, Memory, ROOM, Rooms, SPACE, STRIPS};
+use crate::lower::{built, edited, laid, lined, strip, texted, updated};
+use crate::shelf::{lay_at, lodge, look, show, show_record};
+use crate::show::{UNWRITTEN, bytes, given, large, number, size, text};
+use crate::single::{alone, burst, hold, silence};
+use crate::text::{BYTES, Line};
+use calendar::clock::{Clock, Date, clock_text};
+use calendar::date_change::{TimeOfDay, printed, time_of_day};
+use content::position::field_positions;
+use content::strip::{put_strip, write_strip};
+use content::test::test;
+use frame::build::{answer, build, wrap};
+use frame::given::{Given, placed, plain};
 use frame::holding::{HOLDING, Holding};
+use library::record::record_at;
 use library::store::STORE;
 use printer::answer::{ANSWER, STRIPS as STRIP_BUFFER};
+use printer::call::{fresh, set_clock, set_date_change, tick};
+use printer::single::take_byte;
 use printer::state::STATE;
-
-// The moment behind k spaces: second, minute, hour, day, month, year.
-fn moment(line: &[u8], k: usize) -> Clock
-    requires { k ≤ 2 }
-{
-    Clock {
-        second: small(line, k),
-        minute: small(line, k + 1),
-        hour: small(line, k + 2),
-        date: Date {
-            day: small(line, k + 3),
-            month: small(line, k + 4),
-            year: small(line, k + 5),
-        },
-    }
-}
+use serving::hold::serve;
+use serving::pace::{due, instant_of, is_silence, since};
+use serving::words::{model_of, start_of, watchdog_of};
 
 // What stands behind the bytes handed in: who looks too far finds the end of an update.
 const BEHIND: u8 = 0x03;
 
-// More bytes than a line overwrites.
+// More bytes than a line overwrites in the state.
 const DAMAGE: usize = 64;
 
-// Whether a line begins with a word, and not with bytes in hex: the small letters are none of these.
-fn is_word(b: u8) -> bool {
-    within(0x61, 0x7A, b)
+// No day is the 0th.
+const UNREAL: Clock = Clock {
+    second: 0,
+    minute: 0,
+    hour: 0,
+    date: Date {
+        day: 0,
+        month: 0,
+        year: 0,
+    },
+};
+
+// Bytes overwritten, and the state in each call: the numbers for 05h, for no bytes, for setting a moment that is not real and a date change
+// that is no time of day, and for a tick. Then so many bytes as a line overwrites are as before.
+fn damage(bench: &mut Bench, line: Line) {
+    let at = line.number(1);
+    let before = bench.now.state;
+    let Some(rest) = before.get(at..) else {
+        return;
+    };
+    lay_at(&mut bench.now.state, at, line.bytes(2, &mut [0; DAMAGE]));
+    bench.numbers();
+    bench.on_state(|state| set_clock(state, UNREAL));
+    bench.on_state(|state| set_date_change(state, time_of_day(24, 0)));
+    bench.on_state(tick);
+    if let Some(damaged) = rest.get(..DAMAGE) {
+        lay_at(&mut bench.now.state, at, damaged);
+    }
 }
 
-// The bytes of a line go into a call.
-fn with_bytes(
-    line: &[u8],
-    state: &mut [u8],
-    store: &mut [u8],
-    rooms: Rooms,
-    answer: &mut [u8],
-    strips: &mut [u8],
-) {
-    let mut s = [BEHIND; BYTES];
-    if begins(line, b"frame") {
-        let n = bytes_in(line, 1, &mut s);
-        frame(front(&s, n), state, store, answer, strips, rooms);
-        return;
-    }
-    if begins(line, b"test") {
-        let n = bytes_in(line, 1, &mut s);
-        tested(front(&s, n));
-        return;
-    }
-    if begins(line, b"nothing") {
-        hand_in(state, store, b"", answer, strips, rooms);
-        return;
-    }
-    if is_word(byte_at(line, 0)) {
-        lower(line);
-        return;
-    }
-    let n = bytes_in(line, 0, &mut s);
-    hand_in(state, store, front(&s, n), answer, strips, rooms);
+// The moment that date items stand for, laid out as D6h's data.
+fn show_night(clock: Clock, time: TimeOfDay) {
+    bytes(&clock_text(printed(time, clock)));
 }
 
-// Bytes of the state, overwritten from a place on.
-fn poke(line: &[u8], state: &mut [u8]) {
-    let at = number(line, 1);
-    if state.len() < at {
-        return;
+// A line that makes a call which is lent nothing of the bench.
+fn unlent(line: Line) {
+    let s = &mut [0; BYTES];
+    let n = line.number(1);
+    match line.word(0) {
+        b"night" => show_night(line.moment(1), line.time(7)),
+        b"record" => show_record(record_at(line.bytes(2, s), n)),
+        b"model" => number(model_of(line.bytes(1, s)).unwrap_or(0)),
+        b"watchdog" => number(watchdog_of(line.bytes(1, s)).unwrap_or(0)),
+        b"start" => show_start(start_of(line.bytes(1, s))),
+        b"instant" => show_instant(instant_of(line.signed(1), line.signed(2))),
+        b"since" => large(since(line.long(1), line.long(2))),
+        b"silent" => show_silence(is_silence(line.long(1), line.small(2))),
+        b"due" => large(due(line.long(1), line.long(2))),
+        b"edit" => edited(n, line.number(2), line.bytes(3, s)),
+        b"update" => updated(n, line.bytes(2, s)),
+        b"text" => texted(n, line.bytes(2, s)),
+        b"lay" => laid(n, line.bytes(2, s)),
+        b"strip" => strip(n, line.bytes(2, s), write_strip),
+        b"put" => strip(n, line.bytes(2, s), put_strip),
+        b"positions" => size(field_positions(line.bytes(2, s))),
+        b"build" => built(n, line.bytes(2, s), build),
+        b"answer" => built(n, line.bytes(2, s), answer),
+        b"line" => lined(n, line.bytes(2, s), plain),
+        b"lineat" => lined(n, line.bytes(3, s), |k| placed(k, line.number(2))),
+        // wrap, and what is no word of the table too.
+        _ => built(n, line.bytes(2, s), |out, identifier, _| {
+            wrap(out, identifier, line.number(3))
+        }),
     }
-    let mut s = [0; DAMAGE];
-    let n = bytes_in(line, 2, &mut s);
-    lay(&mut state[at..], front(&s, n));
-}
-
-// Bytes of the state from a place on, as they were.
-fn restore(state: &mut [u8], at: usize, before: &[u8]) {
-    if state.len() < at {
-        return;
-    }
-    lay(&mut state[at..], front(before, DAMAGE));
-}
-
-// Bytes overwritten, and the state in each call; then those bytes are as before.
-fn damage(
-    line: &[u8],
-    rooms: Rooms,
-    state: &mut [u8],
-    store: &mut [u8],
-    answer: &mut [u8],
-    strips: &mut [u8],
-) {
-    let at = number(line, 1);
-    if state.len() < at {
-        return;
-    }
-    let mut before = [0; DAMAGE];
-    lay(&mut before, front(&state[at..], DAMAGE));
-    poke(line, state);
-    every_call(
-        state,
-        store,
-        answer,
-        strips,
-        rooms,
-        moment(b"0 0 0 0 0 0", 0),
-        time_of_day(24, 0),
-    );
-    restore(state, at, &before);
-}
-
-// A frame of the first byte and the others, or the console's line of them.
-fn built(line: &[u8], out: &mut [u8], room: usize, s: &[u8]) {
-    if s.len() < 1 {
-        return;
-    }
-    if begins(line, b"build") {
-        show_build(out, room, s[0], &s[1..]);
-        return;
-    }
-    if begins(line, b"answer") {
-        show_answer(out, room, s[0], &s[1..]);
-        return;
-    }
-    if begins(line, b"line") {
-        show_line(out, room, plain(s[0]), &s[1..]);
-        return;
-    }
-    show_wrap(out, room, s[0], number(line, 3));
-}
-
-// The console's line of a number with a place: the first byte is the number.
-fn line_at(line: &[u8], out: &mut [u8], room: usize, s: &[u8]) {
-    if s.len() < 1 {
-        return;
-    }
-    show_line(out, room, placed(s[0], number(line, 2)), &s[1..]);
-}
-
-// Bytes into a buffer of so many bytes.
-fn laid(line: &[u8], out: &mut [u8], room: usize, s: &[u8]) {
-    if begins(line, b"lay") {
-        show_lay(out, room, s);
-        return;
-    }
-    if begins(line, b"strip") {
-        show_strip(out, room, s);
-        return;
-    }
-    if begins(line, b"put") {
-        show_put(out, room, s);
-        return;
-    }
-    if begins(line, b"positions") {
-        show_positions(s);
-        return;
-    }
-    built(line, out, room, s);
-}
-
-fn lower(line: &[u8]) {
-    let mut s = [0; BYTES];
-    let mut out = [UNWRITTEN; BUFFER];
-    if begins(line, b"edit") {
-        let n = bytes_in(line, 3, &mut s);
-        let way = Way::Edit(number(line, 1));
-        show_change(&mut out, way, number(line, 2), front(&s, n));
-        return;
-    }
-    if begins(line, b"lineat") {
-        let n = bytes_in(line, 3, &mut s);
-        line_at(line, &mut out, number(line, 1), front(&s, n));
-        return;
-    }
-    let n = bytes_in(line, 2, &mut s);
-    let k = number(line, 1);
-    if begins(line, b"update") {
-        show_change(&mut out, Way::Update, k, front(&s, n));
-        return;
-    }
-    if begins(line, b"text") {
-        show_change(&mut out, Way::Text, k, front(&s, n));
-        return;
-    }
-    laid(line, &mut out, k, front(&s, n));
 }
 
 // A line that makes a call.
-fn obey(
-    line: &[u8],
-    state: &mut [u8],
-    store: &mut [u8],
-    answer: &mut [u8],
-    strips: &mut [u8],
-    rooms: Rooms,
-) {
-    if begins(line, b"fresh") {
-        start(state, rooms, small(line, 1), moment(line, 2));
-        return;
+fn obey(bench: &mut Bench, line: Line) {
+    let s = &mut [BEHIND; BYTES];
+    match line.word(0) {
+        b"same" => bench.same(),
+        b"damage" => damage(bench, line),
+        b"fresh" => bench.on_state(|state| fresh(state, line.small(1), line.moment(2))),
+        b"set" => bench.on_state(|state| set_clock(state, line.moment(1))),
+        b"change" => bench.on_state(|state| set_date_change(state, line.time(1))),
+        b"tick" => bench.on_state(tick),
+        b"nothing" => bench.hand_in(b""),
+        b"frame" => bench.frame(line.bytes(1, s)),
+        b"test" => given(Given::from(test(line.bytes(1, s)))),
+        b"byte" => alone(bench, line, |bench, byte| bench.take(byte, take_byte)),
+        b"burst" => burst(bench, line, |bench, byte| bench.take(byte, take_byte)),
+        b"served" => alone(bench, line, |bench, byte| bench.take(byte, serve)),
+        b"serve" => burst(bench, line, |bench, byte| bench.take(byte, serve)),
+        b"silence" => silence(bench),
+        b"peek" => look(line, &bench.now.buffer),
+        b"look" => look(line, &bench.now.store),
+        b"lodge" => lodge(line, &mut bench.now.store),
+        b"shown" => show(line, bench),
+        [b'a'..=b'z', ..] => unlent(line),
+        _ => bench.hand_in(line.bytes(0, s)),
     }
-    if begins(line, b"set") {
-        set(state, rooms, moment(line, 1));
-        return;
-    }
-    if begins(line, b"change") {
-        change(state, rooms, time_of_day(small(line, 1), small(line, 2)));
-        return;
-    }
-    if begins(line, b"night") {
-        night(moment(line, 1), time_of_day(small(line, 7), small(line, 8)));
-        return;
-    }
-    if begins(line, b"tick") {
-        pass(state, rooms);
-        return;
-    }
-    if begins(line, b"damage") {
-        damage(line, rooms, state, store, answer, strips);
-        return;
-    }
-    if asked(line, store, rooms) {
-        return;
-    }
-    if aboard(line) {
-        return;
-    }
-    with_bytes(line, state, store, rooms, answer, strips);
-}
-
-// Whether state, store and what single bytes are held in are those that were kept, and no byte of the other buffers is written.
-fn all_same(
-    state: &[u8],
-    store: &[u8],
-    buffer: &[u8],
-    kept: &[u8],
-    kept_store: &[u8],
-    kept_buffer: &[u8],
-    answer: &[u8],
-    strips: &[u8],
-) {
-    if !same(state, kept) {
-        text(b" no, the state");
-        return;
-    }
-    if !same(store, kept_store) {
-        text(b" no, the store");
-        return;
-    }
-    if !same(buffer, kept_buffer) {
-        text(b" no, the buffer of what is held");
-        return;
-    }
-    if !unwritten(answer, 0) {
-        text(b" no, the answer buffer");
-        return;
-    }
-    if !unwritten(strips, 0) {
-        text(b" no, the strip buffer");
-        return;
-    }
-    text(b" yes");
 }
 
 // What a line does; but for those that only prepare, its outcome stands behind it.
-fn act(
-    line: &[u8],
-    state: &mut [u8],
-    store: &mut [u8],
-    buffer: &[u8],
-    rooms: Rooms,
-    kept: &mut [u8],
-    kept_store: &mut [u8],
-    kept_buffer: &mut [u8],
-    answer: &mut [u8],
-    strips: &mut [u8],
-) {
-    if begins(line, b"keep") {
-        lay(kept, state);
-        lay(kept_store, store);
-        lay(kept_buffer, buffer);
-        return;
-    }
-    if prepared(line, store, kept_store) {
-        return;
-    }
-    if begins(line, b"poke") {
-        poke(line, state);
-        return;
-    }
-    if begins(line, b"ticks") {
-        make_up(line, state, rooms);
-        return;
-    }
-    text(b" =");
-    if begins(line, b"same") {
-        all_same(
-            state,
-            store,
-            buffer,
-            kept,
-            kept_store,
-            kept_buffer,
-            answer,
-            strips,
-        );
-        return;
-    }
-    obey(line, state, store, answer, strips, rooms);
-}
-
-// The rooms from a line on.
-fn rooms_from(line: &[u8], rooms: Rooms) -> Rooms {
-    if begins(line, b"size") {
-        return Rooms {
-            state: number(line, 1),
-            store: rooms.store,
-            buffer: rooms.buffer,
-            answer: rooms.answer,
-            strips: rooms.strips,
-        };
-    }
-    if begins(line, b"store") {
-        return Rooms {
-            state: rooms.state,
-            store: number(line, 1),
-            buffer: rooms.buffer,
-            answer: rooms.answer,
-            strips: rooms.strips,
-        };
-    }
-    if begins(line, b"buffer") {
-        return Rooms {
-            state: rooms.state,
-            store: rooms.store,
-            buffer: number(line, 1),
-            answer: rooms.answer,
-            strips: rooms.strips,
-        };
-    }
-    Rooms {
-        state: rooms.state,
-        store: rooms.store,
-        buffer: rooms.buffer,
-        answer: number(line, 1),
-        strips: number(line, 2),
-    }
-}
-
-// Where the line that begins at a place ends.
-fn line_end(s: &[u8], from: usize) -> usize
-    requires { from ≤ length s.now }
-    ensures { (from ≤ result) × (result ≤ length s.now) }
-{
-    let mut at = from;
-    while at < s.len() {
-        if s[at] == 0x0A {
-            return at;
+fn act(bench: &mut Bench, line: Line) {
+    let n = line.number(1);
+    match line.word(0) {
+        b"size" => bench.rooms.state = n,
+        b"store" => bench.rooms.store = n,
+        b"buffer" => bench.rooms.buffer = n,
+        b"rooms" => {
+            bench.rooms.answer = n;
+            bench.rooms.strips = line.number(2);
         }
-        at += 1;
+        b"keep" => bench.keep(),
+        b"blank" => bench.now.store[..STORE].fill(0),
+        b"back" => bench.now.store.copy_from_slice(&bench.kept.store),
+        b"fill" => lay_at(&mut bench.now.store, n, line.bytes(2, &mut [0; BYTES])),
+        b"poke" => lay_at(&mut bench.now.state, n, line.bytes(2, &mut [0; DAMAGE])),
+        b"ticks" => make_up(bench, line),
+        b"holding" => hold(bench, line),
+        _ => {
+            text(b" =");
+            obey(bench, line);
+        }
     }
-    at
 }
 
-// Whether a line is a title or empty.
-fn is_title(line: &[u8]) -> bool {
-    if line.len() == 0 {
-        return true;
-    }
-    byte_at(line, 0) == 0x23
-}
-
-fn is_room(line: &[u8]) -> bool {
-    if begins(line, b"size") {
-        return true;
-    }
-    if begins(line, b"store") {
-        return true;
-    }
-    if begins(line, b"buffer") {
-        return true;
-    }
-    begins(line, b"rooms")
-}
-
-// What a line leaves to the next: the rooms, and what is held between single bytes.
-#[derive(Clone, Copy)]
-struct Left {
-    rooms: Rooms,
-    holding: Holding,
-}
-
-// A line, and what it leaves.
-fn turn(
-    line: &[u8],
-    state: &mut [u8],
-    store: &mut [u8],
-    buffer: &mut [u8],
-    kept: &mut [u8],
-    kept_store: &mut [u8],
-    kept_buffer: &mut [u8],
-    answer: &mut [u8],
-    strips: &mut [u8],
-    before: Left,
-) -> Left {
-    let rooms = before.rooms;
-    let holding = before.holding;
+// A line, and unless it is a title or empty what it does.
+fn turn(bench: &mut Bench, line: &[u8]) {
     text(line);
-    if is_title(line) {
-        text(b"\n");
-        return before;
+    if !matches!(line, [] | [b'#', ..]) {
+        act(bench, Line(line));
     }
-    if is_room(line) {
-        text(b"\n");
-        return Left {
-            rooms: rooms_from(line, rooms),
-            holding,
-        };
-    }
-    if is_single(line) {
-        let holding = singly(line, state, store, holding, buffer, answer, strips, rooms);
-        text(b"\n");
-        return Left { rooms, holding };
-    }
-    act(
-        line,
-        state,
-        store,
-        buffer,
-        rooms,
-        kept,
-        kept_store,
-        kept_buffer,
-        answer,
-        strips,
-    );
     text(b"\n");
-    before
 }
 
 pub(crate) fn run(s: &[u8]) {
-    let mut state = [UNWRITTEN; ROOM];
-    let mut store = [UNWRITTEN; SPACE];
-    let mut buffer = [UNWRITTEN; HELD];
-    let mut kept = [0; ROOM];
-    let mut kept_store = [0; SPACE];
-    let mut kept_buffer = [0; HELD];
-    let mut answer = [UNWRITTEN; ANSWERS];
-    let mut strips = [UNWRITTEN; STRIPS];
-    let mut left = Left {
+    let mut bench = Bench {
+        now: Memory {
+            state: [UNWRITTEN; ROOM],
+            store: [UNWRITTEN; SPACE],
+            buffer: [UNWRITTEN; HELD],
+        },
+        kept: Memory {
+            state: [0; ROOM],
+            store: [0; SPACE],
+            buffer: [0; HELD],
+        },
+        answer: [UNWRITTEN; ANSWERS],
+        strips: [UNWRITTEN; STRIPS],
         rooms: Rooms {
             state: STATE,
             store: STORE,
@@ -477,21 +181,7 @@ pub(crate) fn run(s: &[u8]) {
         },
         holding: Holding::Held(0),
     };
-    let mut at = 0;
-    while at < s.len() {
-        let end = line_end(s, at);
-        left = turn(
-            &s[at..end],
-            &mut state,
-            &mut store,
-            &mut buffer,
-            &mut kept,
-            &mut kept_store,
-            &mut kept_buffer,
-            &mut answer,
-            &mut strips,
-            left,
-        );
-        at = end + 1;
+    for line in s.split_inclusive(|b| *b == b'\n') {
+        turn(&mut bench, line.strip_suffix(b"\n").unwrap_or(line));
     }
 }

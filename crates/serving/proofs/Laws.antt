@@ -1,15 +1,19 @@
--- What the functions' proofs cite: what is handed back by its number, what comes of a byte where there is no room, where it is taken and where
--- all is dropped, a tick that is made, and a digit.
-use Prim.Native.Nat.{ℕ, zero, suc, ◌+◌, ◌-◌, ◌≤◌, ◌<◌}
+-- What the functions' proofs cite: what comes of a byte where there is no room, where it is taken and where all is dropped, a tick that is
+-- made, and a digit.
+use Prim.Native.Nat.{ℕ, zero, suc, ◌+◌, ◌≤◌, ◌<◌}
 use mathlib.Core.Bool.{Bool, true, false}
 use mathlib.Core.List.{List}
 use mathlib.Core.Path.{◌≡◌, refl, sym, ◌∙◌, ap, subst}
 use native.Mathlib.Omega.{arith}
+use Rattle.std.proofs.Common.{Some}
 use borrow.Author.Tests.{eq-eqb, ne_eqb, le-leb, lt-leb}
-use lib.Dec.{eqb}
-use lib.ListN.{length, set, take, length-set}
+use lib.ListN.{length, set, take}
 use lib.Seq.{set_out}
-use Rattle.frame.specs.Ground.{pick, within}
+use Rattle.frame.specs.Ground.{pick, plain, within}
+use Rattle.frame.specs.Given.{given_in, given_of}
+use Rattle.frame.specs.declared.given.Given.{Given}
+use Rattle.frame.specs.declared.given.Refusal.{Refusal}
+use Rattle.frame.specs.declared.given.Refusal.TheVariants.{BadState, NotWhole}
 use Rattle.frame.specs.Holding.{holding_behind}
 use Rattle.frame.specs.Receive.{number, received}
 use Rattle.frame.specs.declared.holding.Holding.{Holding}
@@ -28,55 +32,29 @@ use Rattle.printer.proofs.Bytewise.{fulfils_counted}
 use Rattle.printer.proofs.Said.{fulfils_same, meets_silent}
 use Rattle.serving.specs.Hold.{Serves, asked, behind, served, taken_unless, uncalled}
 use Rattle.serving.specs.Pace.{ticked}
-use Rattle.serving.specs.Words.{digit, unwritten}
-
--- ---- What is handed back by its number.
-abbrev by_number : ℕ → Answered → Bool → Bool → Bool → Taken
-by_number n a t u v =
-    record { answered = pick t a (counted a); holding = pick t (Held n) (pick u (Held (n + 1)) (pick v Dropping (Held 0))) }
-
-module _ (n : ℕ) (a : Answered) where
-  abbrev k : ℕ
-  k = a.number
-
-  pub behind_untaken : within 1 2 k ≡ true → by_number n a true false false ≡ behind n a
-  behind_untaken e = sym (ap (λ (t : Bool). by_number n a t (eqb k 3) (eqb k 4)) e)
-
-  module _ (out : within 1 2 k ≡ false) where
-    pub behind_held : k ≡ 3 → by_number n a false true false ≡ behind n a
-    behind_held e =
-        sym (ap (λ (t : Bool). by_number n a t (eqb k 3) (eqb k 4)) out ∙ ap (λ (t : Bool). by_number n a false t (eqb k 4)) (eq-eqb k 3 e))
-
-    pub behind_other : (v : Bool) → (k ≡ 3 → ⊥) → eqb k 4 ≡ v → by_number n a false false v ≡ behind n a
-    behind_other v three e =
-        sym
-        (ap (λ (t : Bool). by_number n a t (eqb k 3) (eqb k 4)) out
-        ∙ ap (λ (t : Bool). by_number n a false t (eqb k 4)) (ne_eqb k 3 three)
-        ∙ ap (λ (t : Bool). by_number n a false false t) e)
+use Rattle.serving.specs.Words.{digit}
 
 -- ---- What comes of a byte.
-pub front_inside : (buffer : List ℕ) (n byte : ℕ) → n < length buffer → n + 1 ≤ length (set buffer n byte)
-front_inside buffer n byte h = omega (arith, length-set buffer n byte)
+unsaid : (m store answer strips : List ℕ) (why : Refusal) (k : ℕ) → given_of why ≡ plain k → (k ≡ 0 → ⊥)
+    → Fulfils (silent (printer_of m) k) m store answer strips (uncalled why 0) m store answer strips
+unsaid m store answer strips why k g h =
+    record { meets = meets_silent (printer_of m) m answer strips g h (record { answered = refl }); stores = refl }
 
-unsaid : (m store answer strips : List ℕ) (k : ℕ) → (k ≡ 0 → ⊥) → Fulfils (silent (printer_of m) k) m store answer strips (uncalled k 0) m store answer strips
-unsaid m store answer strips k h =
-    record { meets = meets_silent (printer_of m) m answer strips h (record { answered = refl }); stores = refl }
-
-waits : (m store answer strips : List ℕ) → Fulfils (silent (printer_of m) 3) m store answer strips (uncalled 3 0) m store answer strips
-waits m store answer strips = unsaid m store answer strips 3 (λ z. omega arith)
+waits : (m store answer strips : List ℕ) → Fulfils (silent (printer_of m) 3) m store answer strips (uncalled NotWhole 0) m store answer strips
+waits m store answer strips = unsaid m store answer strips NotWhole 3 refl (λ z. omega arith)
 
 module _ (m store buffer answer strips : List ℕ) (n byte : ℕ) where
   abbrev in-hand : HandedByte
   in-hand = handed_byte store (Held n) buffer byte answer strips
 
-  pub no_room : length buffer ≤ n → {a : Answered} → a ≡ uncalled 1 0
+  pub no_room : length buffer ≤ n → {a : Answered} → a ≡ uncalled BadState 0
       → Serves m store (Held n) buffer byte answer strips (record { answered = a; holding = Held n }) m store buffer answer strips
   unfolding served
   no_room h w =
       let e = le-leb (length buffer) n h in
       rw w
       (record {
-        fulfils = rw e (unsaid m store answer strips 1 (λ z. omega arith));
+        fulfils = rw e (unsaid m store answer strips BadState 1 refl (λ z. omega arith));
         holds = rw e refl;
         buffer_bytes = sym (set_out buffer n byte h);
       })
@@ -93,9 +71,9 @@ module _ (m store buffer answer strips : List ℕ) (n byte : ℕ) where
   same_number false = refl
 
   counts : {a : Answered} {m' store' answer' strips' : List ℕ} → Fulfils o m store answer strips a m' store' answer' strips'
-      → Fulfils (taken_unless o) m store answer strips (pick (within 1 2 a.number) a (counted a)) m' store' answer' strips'
+      → Fulfils (taken_unless o) m store answer strips (pick (within 1 2 (given_in a.outcome).number) a (counted a)) m' store' answer' strips'
   counts {a} {m'} {store'} {answer'} {strips'} x =
-      subst (λ (j : ℕ). Fulfils (taken_unless o) m store answer strips (pick (within 1 2 j) a (counted a)) m' store' answer' strips')
+      subst (λ (g : Given). Fulfils (taken_unless o) m store answer strips (pick (within 1 2 g.number) a (counted a)) m' store' answer' strips')
       (sym x.meets.gives) (go (within 1 2 o.number))
     where
       go : (t : Bool) → Fulfils (pick t o (taken o)) m store answer strips (pick t a (counted a)) m' store' answer' strips'
@@ -111,7 +89,7 @@ module _ (m store buffer answer strips : List ℕ) (n byte : ℕ) where
       rw e
       (record {
         fulfils = rw f (counts x);
-        holds = rw f (ap (holding_behind (Held n)) (x.meets.gives ∙ same_number (within 1 2 o.number)));
+        holds = rw f (ap (λ (g : Given). holding_behind (Held n) g.number) x.meets.gives ∙ ap (holding_behind (Held n)) (same_number (within 1 2 o.number)));
         buffer_bytes = refl;
       })
 
@@ -119,7 +97,7 @@ module _ (m store buffer answer strips : List ℕ) (n byte : ℕ) where
   abbrev front : List ℕ
   front = take (n + 1) (set buffer n byte)
 
-  pub roomy_partial : n < length buffer → {a : Answered} {r : Taken} → received front ≡ Partial → a ≡ uncalled 3 0 → r ≡ behind n a
+  pub roomy_partial : n < length buffer → {a : Answered} {r : Taken} → received front ≡ Partial → a ≡ uncalled NotWhole 0 → r ≡ behind n a
       → Serves m store (Held n) buffer byte answer strips r m store (set buffer n byte) answer strips
   roomy_partial h e w q =
       let f : received whole ≡ Partial = ap received (sym (behind_front n buffer byte h)) ∙ e in
@@ -139,26 +117,23 @@ module _ (m store buffer answer strips : List ℕ) (n byte : ℕ) where
       x.fulfils)
 
 -- While all is dropped.
-pub drops : (m store buffer answer strips : List ℕ) (byte : ℕ) {holding : Holding} {a : Answered} → holding ≡ Dropping → a ≡ uncalled 3 1
+pub drops : (m store buffer answer strips : List ℕ) (byte : ℕ) {holding : Holding} {a : Answered} → holding ≡ Dropping → a ≡ uncalled NotWhole 1
     → Serves m store holding buffer byte answer strips (record { answered = a; holding = Dropping }) m store buffer answer strips
 unfolding served
 drops m store buffer answer strips byte e w =
     rw (e, w) (record { fulfils = fulfils_counted refl (waits m store answer strips); holds = refl; buffer_bytes = refl })
 
-pub holds_on : {m store buffer answer strips : List ℕ} {byte n : ℕ} {holding : Holding} {r : Taken} {m' store' buffer' answer' strips' : List ℕ} → holding ≡ Held n
-    → Serves m store (Held n) buffer byte answer strips r m' store' buffer' answer' strips' → Serves m store holding buffer byte answer strips r m' store' buffer' answer' strips'
-holds_on e x = rw e x
+-- ---- A tick that is made behind others.
+more : (n : ℕ) (m : List ℕ) → left (tick_clock (ticked n m)) (ticked n m) ≡ ticked (suc n) m
+more zero m = refl
+more (suc n) m = more n (left (tick_clock m) m)
 
--- ---- A tick that is made.
-pub one_ticked : (n : ℕ) (m : List ℕ) → 0 < n → ticked n m ≡ ticked (n - 1) (left (tick_clock m) m)
-one_ticked zero m h = absurd (omega arith)
-one_ticked (suc n) m h = let e : n ≡ suc n - 1 = omega arith in ap (λ (k : ℕ). ticked k (left (tick_clock m) m)) e
+pub one_more : (n : ℕ) (m : List ℕ) {s s' : List ℕ} → s ≡ ticked n m → s' ≡ left (tick_clock s) s → s' ≡ ticked (n + 1) m
+one_more n m e f =
+    let g : suc n ≡ n + 1 = omega arith in
+    f ∙ ap (λ (s : List ℕ). left (tick_clock s) s) e ∙ more n m ∙ ap (λ (k : ℕ). ticked k m) g
 
 -- ---- A digit that is one.
-pub digit_most : (b n : ℕ) → n ≡ digit b → (n ≡ unwritten → ⊥) → n ≤ 9
+pub digit_most : (b n : ℕ) → digit b ≡ Some n → n ≤ 9
 unfolding digit
-digit_most b n e h = go (within 0x30 0x39 b) refl
-  where
-    go : (t : Bool) → within 0x30 0x39 b ≡ t → n ≤ 9
-    go true q = omega (arith, e ∙ ap (λ (t : Bool). pick t (b - 0x30) unwritten) q, (within_true 0x30 0x39 b q).1)
-    go false q = absurd (h (e ∙ ap (λ (t : Bool). pick t (b - 0x30) unwritten) q))
+digit_most b n e = grind (arith, within_true)

@@ -1,9 +1,10 @@
 -- A byte of a line: what the box makes of it where it is called only once what is held is whole, and what is held behind it.
-use Rattle.std.specs.Prelude.{ℕ, List, ◌≡◌, eqb, leb, length, set, replicate}
+use Rattle.std.specs.Prelude.{ℕ, Err, List, ◌≡◌, eqb, leb, length, set, replicate}
 use Rattle.frame.specs.Ground.{pick, within}
 use Rattle.frame.specs.Holding.{holding_behind}
 use Rattle.frame.specs.Receive.{number, received}
-use Rattle.frame.specs.declared.given.Where.TheVariants.{Nowhere}
+use Rattle.frame.specs.Given.{given_in}
+use Rattle.frame.specs.declared.given.Refusal.{Refusal}
 use Rattle.frame.specs.declared.holding.Holding.{Holding}
 use Rattle.frame.specs.declared.holding.Holding.TheVariants.{Held, Dropping}
 use Rattle.printer.specs.State.{printer_of}
@@ -40,15 +41,17 @@ abbrev pub left_buffer : Holding → List ℕ → ℕ → List ℕ
 left_buffer (Held n) buffer byte = set buffer n byte
 left_buffer Dropping buffer byte = buffer
 
--- The contract of `uncalled`: a number and nothing else.
-abbrev pub uncalled : ℕ → ℕ → Answered
-uncalled number consumed =
-    record { number = number; place = Nowhere; consumed = consumed; answer = 0; strips = replicate 4 0 }
+-- The contract of `uncalled`: a refusal and nothing else.
+abbrev pub uncalled : Refusal → ℕ → Answered
+uncalled why consumed = record { outcome = Err why; consumed = consumed; answer = 0; strips = replicate 4 0 }
 
 -- The contract of `behind`.
 abbrev pub behind : ℕ → Answered → Taken
 behind n a =
-    record { answered = pick (within 1 2 a.number) a (counted a); holding = holding_behind (Held n) a.number }
+    record {
+      answered = pick (within 1 2 (given_in a.outcome).number) a (counted a);
+      holding = holding_behind (Held n) (given_in a.outcome).number;
+    }
 
 -- The contract of `serve`: all that the box gave, what is held behind the byte, and the buffer that it stands in.
 pub record Serves

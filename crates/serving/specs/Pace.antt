@@ -1,27 +1,23 @@
 -- The time on a line, in milliseconds of the machine's clock.
-use Rattle.std.specs.Prelude.{ℕ, zero, suc, ◌+◌, ◌-◌, ◌*◌, ◌/◌, Bool, List, leb, ltb, ℤ, pos, negsuc}
+use Rattle.std.specs.Prelude.{ℕ, zero, suc, ◌+◌, ◌-◌, ◌*◌, ◌/◌, Bool, Option, None, Some, List, leb, ltb, ℤ, pos, negsuc}
 use Rattle.frame.specs.Ground.{pick}
 use Rattle.printer.specs.Order.{left}
 use Rattle.printer.specs.Call.{tick_clock}
-use Rattle.serving.specs.declared.pace.Instant.{Instant}
-use Rattle.serving.specs.declared.pace.Instant.TheVariants.{At, Unknown}
 
--- The machine's clock counts seconds, and nanoseconds below 1,000,000,000. What is below 0 counts nothing, and is taken for more than
--- either can be; more than 30,000 years are no moment either.
-abbrev pub count : ℤ → ℕ
-count (pos n) = n
-count (negsuc n) = 18446744073709551615
-
+-- The machine's clock counts seconds, and nanoseconds below 1,000,000,000. What is below 0 counts nothing; more than 30,000 years are no
+-- moment either.
 abbrev pub milliseconds : ℕ → ℕ → ℕ
 milliseconds seconds nanoseconds = seconds * 1000 + nanoseconds / 1000000
 
-unfoldable pub instant_at : ℕ → ℕ → Instant
+unfoldable pub instant_at : ℕ → ℕ → Option ℕ
 instant_at seconds nanoseconds =
-    pick (ltb 1000000000000 seconds) Unknown
-    (pick (leb 1000000000 nanoseconds) Unknown (At (milliseconds seconds nanoseconds)))
+    pick (ltb 1000000000000 seconds) None
+    (pick (leb 1000000000 nanoseconds) None (Some (milliseconds seconds nanoseconds)))
 
-abbrev pub instant_of : ℤ → ℤ → Instant
-instant_of seconds nanoseconds = instant_at (count seconds) (count nanoseconds)
+abbrev pub instant_of : ℤ → ℤ → Option ℕ
+instant_of (pos seconds) (pos nanoseconds) = instant_at seconds nanoseconds
+instant_of (pos seconds) (negsuc nanoseconds) = None
+instant_of (negsuc seconds) nanoseconds = None
 
 -- From an earlier moment to a later one.
 abbrev pub since : ℕ → ℕ → ℕ

@@ -3,21 +3,20 @@ ghost use Rattle.std.specs.Prelude.{◌+◌, ◌<◌, ◌≡◌};
 ghost use Rattle.frame.specs.declared.holding.Holding.TheVariants.{Held};
 ghost use Rattle.serving.specs.Hold.{Serves, behind, uncalled};
 
-use content::byte::within;
-use frame::given::Where;
+use frame::given::Refusal;
 use frame::holding::Holding;
 use frame::receive::{Received, receive as received};
 use printer::answer::Answered;
 use printer::receive::receive;
 use printer::single::Taken;
 
-// The box is not called: a number and nothing else, and so many bytes are taken.
-fn uncalled(number: u8, consumed: usize) -> Answered
-    ensures { result ≡ uncalled number consumed }
+// The box is not called: a refusal and nothing else, and so many bytes are taken. The printer's `silent` and `held_behind` are its own: they
+// ask what is true there alone, and no public function asks for anything.
+fn uncalled(why: Refusal, consumed: usize) -> Answered
+    ensures { result ≡ uncalled why consumed }
 {
     Answered {
-        number,
-        place: Where::Nowhere,
+        outcome: Err(why),
         consumed,
         answer: 0,
         strips: [0; 4],
@@ -29,30 +28,23 @@ fn behind(n: usize, answered: Answered) -> Taken
     requires { n + 1 < 18446744073709551616 }
     ensures { result ≡ behind n answered }
 {
-    let number = answered.number;
-    if within(1, 2, number) {
-        return Taken {
-            answered,
-            holding: Holding::Held(n),
-        };
-    }
-    let mut counted = answered;
-    counted.consumed = 1;
-    if number == 3 {
-        return Taken {
-            answered: counted,
-            holding: Holding::Held(n + 1),
-        };
-    }
-    if number == 4 {
-        return Taken {
-            answered: counted,
-            holding: Holding::Dropping,
-        };
-    }
+    let holding = match answered.outcome {
+        Err(Refusal::BadState | Refusal::ShortBuffer) => {
+            return Taken {
+                answered,
+                holding: Holding::Held(n),
+            };
+        }
+        Err(Refusal::NotWhole) => Holding::Held(n + 1),
+        Err(Refusal::TooLong) => Holding::Dropping,
+        _ => Holding::Held(0),
+    };
     Taken {
-        answered: counted,
-        holding: Holding::Held(0),
+        answered: Answered {
+            consumed: 1,
+            ..answered
+        },
+        holding,
     }
 }
 
@@ -70,20 +62,20 @@ fn serve_held(
 {
     if buffer.len() <= n {
         return Taken {
-            answered: uncalled(1, 0),
+            answered: uncalled(Refusal::BadState, 0),
             holding: Holding::Held(n),
         };
     }
     buffer[n] = byte;
     let whole = &buffer[..n + 1];
-    let found = received(whole);
-    if let Received::Partial = found {
-        return behind(n, uncalled(3, 0));
+    if received(whole) == Received::Partial {
+        return behind(n, uncalled(Refusal::NotWhole, 0));
     }
     behind(n, receive(state, store, whole, answer, strips))
 }
 
-// Takes a byte of the line: it is held or dropped, or completes what is handed in to the box.
+// Takes a byte of the line: it is held or dropped, or completes what is handed in to the box. What is lent is lent one by one, as to the
+// printer's calls.
 pub fn serve(
     state: &mut [u8],
     store: &mut [u8],
@@ -98,7 +90,7 @@ pub fn serve(
     match holding {
         Holding::Held(n) => serve_held(state, store, n, buffer, byte, answer, strips),
         Holding::Dropping => Taken {
-            answered: uncalled(3, 1),
+            answered: uncalled(Refusal::NotWhole, 1),
             holding: Holding::Dropping,
         },
     }

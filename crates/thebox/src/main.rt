@@ -5,27 +5,18 @@ mod asked;
 mod line;
 mod say;
 
-use asked::{Asked, Strips, read_words};
+use asked::read_words;
 use line::run;
-use say::{refuse_moment, refuse_strips, refuse_type, refuse_watchdog, usage};
+use say::{Failure, failed};
 use std::process::ExitCode;
 
+fn serve(rt: &HostRuntime) -> Result<(), Failure> {
+    run(rt, read_words(rt)?)
+}
+
 fn main(rt: HostRuntime) -> ExitCode {
-    let asked = read_words(&rt);
-    match asked {
-        Asked::Other => usage(&rt),
-        Asked::BadType => refuse_type(&rt),
-        Asked::BadMoment => refuse_moment(&rt),
-        Asked::BadWatchdog => refuse_watchdog(&rt),
-        Asked::Box {
-            model,
-            clock,
-            watchdog,
-            strips,
-        } => match strips {
-            Strips::Failed(why) => refuse_strips(&rt, &why),
-            Strips::Nowhere => run(rt, model, clock, watchdog, None),
-            Strips::To(file) => run(rt, model, clock, watchdog, Some(file)),
-        },
+    match serve(&rt) {
+        Ok(()) => ExitCode::SUCCESS,
+        Err(why) => failed(&rt, &why),
     }
 }

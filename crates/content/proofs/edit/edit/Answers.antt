@@ -6,20 +6,18 @@ use mathlib.Core.List.{List, [], ◌∷◌, ◌++◌, append-nil}
 use mathlib.Core.Path.{◌≡◌, refl, sym, ◌∙◌, ap}
 use native.Mathlib.Nat.{add-zero, not-suc-le-zero}
 use native.Mathlib.Omega.{arith}
+use Rattle.std.specs.Prelude.{Option, None, Some, Err}
 use borrow.Rule.Slice.PartMut.{mid_of, put_mid}
 use lib.ListN.{length, take, drop, length-append, length-drop, take-append-drop}
 use lib.Seq.{length-take-le}
 use Rattle.frame.specs.Build.{Lays}
 use Rattle.frame.specs.Ground.{over, placed}
-use Rattle.frame.specs.declared.given.Given.{Given}
-use Rattle.frame.specs.declared.given.Where.{Where}
-use Rattle.frame.specs.declared.given.Where.TheVariants.{Nowhere, At}
 use Rattle.frame.proofs.Ground.{laid_behind, both_true}
 use Rattle.content.specs.Byte.{characters_in_front}
+use Rattle.content.specs.Edit as edits
 use Rattle.content.specs.Edit.{Edits, addressed, edited, replaced, strayed}
 use Rattle.content.specs.Machine.{start}
 use Rattle.content.specs.Position.{marks, is_position}
-use Rattle.content.specs.declared.edit.Edited.TheVariants.{Done, Refused}
 use Rattle.content.specs.declared.position.Mark.{Mark}
 use Rattle.content.proofs.Front.{all_in_front, some_other}
 use Rattle.content.proofs.Run.{length_marks}
@@ -36,20 +34,20 @@ none : (s : List ℕ) (address : ℕ) (symbols : List ℕ) → length symbols �
 none s address [] h = rw (append-nil, add-zero) (sym (take-append-drop address s))
 none s address (x ∷ symbols) h = absurd (not-suc-le-zero h)
 
-module _ (s : List ℕ) (address : ℕ) (symbols : List ℕ) {w : Where} (e : w ≡ strayed address symbols (drop address (marks start s))) where
-  no_position : {i : ℕ} {g : Given} → w ≡ At i → g ≡ placed 12 i → Edits s address symbols (Refused g) s
+module _ (s : List ℕ) (address : ℕ) (symbols : List ℕ) {w : Option ℕ} (e : w ≡ strayed address symbols (drop address (marks start s))) where
+  no_position : {i : ℕ} → w ≡ Some i → Edits s address symbols (Err (placed 12 i)) s
   unfolding edited
-  no_position f q = let h = strayed_at address symbols _ (sym e ∙ f) in edit_told s address symbols (rw (q, h.0, h.1)) refl
+  no_position f = let h = strayed_at address symbols _ (sym e ∙ f) in edit_told s address symbols (rw (h.0, h.1)) refl
 
-  module _ (f : w ≡ Nowhere) where
+  module _ (f : w ≡ None) where
     all_land : addressed symbols (drop address (marks start s)) ≡ true
     all_land = strayed_nowhere address symbols _ (sym e ∙ f)
 
-    no_character : {i : ℕ} {g : Given} → i ≡ characters_in_front symbols → i < length symbols → g ≡ placed 13 i → Edits s address symbols (Refused g) s
+    no_character : {i : ℕ} → i ≡ characters_in_front symbols → i < length symbols → Edits s address symbols (Err (placed 13 i)) s
     unfolding edited
-    no_character n h q = edit_told s address symbols (rw (q, all_land, some_other symbols (rw (← n) h), n)) refl
+    no_character n h = edit_told s address symbols (rw (all_land, some_other symbols (rw (← n) h), n)) refl
 
-    done : {i : ℕ} {after : List ℕ} → i ≡ characters_in_front symbols → length symbols ≤ i → after ≡ replaced s address symbols → Edits s address symbols Done after
+    done : {i : ℕ} {after : List ℕ} → i ≡ characters_in_front symbols → length symbols ≤ i → after ≡ replaced s address symbols → Edits s address symbols edits.done after
     unfolding edited
     done n h p = edit_told s address symbols (rw (all_land, all_in_front symbols (rw (← n) h))) p
 
@@ -67,28 +65,28 @@ module _ (s : List ℕ) (address : ℕ) (symbols : List ℕ) {w : Where} (e : w 
     untouched : length s < address → s ≡ replaced s address symbols
     untouched h = none s address symbols (omega (arith, room, h))
 
-pub returns-in-At : goal.returns-in-At
-returns-in-At c =
+pub returns-in-Some : goal.returns-in-Some
+returns-in-Some c =
     let a = c.args in
-    no_position a.s.now a.address a.symbols.now c.strayed-stray.ensures c.in-At.is c.placed.ensures
+    no_position a.s.now a.address a.symbols.now c.strayed.ensures c.in-Some.is
 
 pub returns-then-i-symbols : goal.returns-then-i-symbols
 returns-then-i-symbols c =
     let a = c.args in
-    no_character a.s.now a.address a.symbols.now c.strayed-stray.ensures c.in-Nowhere.is c.characters_in_front-i.ensures c.if-i-symbols.true c.placed-then-i-symbols.ensures
+    no_character a.s.now a.address a.symbols.now c.strayed.ensures c.in_default.is c.characters_in_front-i.ensures c.if-i-symbols.true
 
 pub returns-then-address-s : goal.returns-then-address-s
 returns-then-address-s c =
     let a = c.args in
-    let p = c.strayed-stray.ensures in
-    let f = c.in-Nowhere.is in
+    let p = c.strayed.ensures in
+    let f = c.in_default.is in
     done a.s.now a.address a.symbols.now p f c.characters_in_front-i.ensures c.if-i-symbols.false
     (written a.s.now a.address a.symbols.now p f c.if-address-s.true c.lay.ensures)
 
 pub returns-else-address-s : goal.returns-else-address-s
 returns-else-address-s c =
     let a = c.args in
-    let p = c.strayed-stray.ensures in
-    let f = c.in-Nowhere.is in
+    let p = c.strayed.ensures in
+    let f = c.in_default.is in
     done a.s.now a.address a.symbols.now p f c.characters_in_front-i.ensures c.if-i-symbols.false
     (untouched a.s.now a.address a.symbols.now p f c.if-address-s.false)

@@ -5,8 +5,8 @@ use lib.ListN.{length}
 use Rattle.content.proofs.Stretches.{Landing}
 use Rattle.content.proofs.edit.strayed.Given as goal
 
-abbrev pub invariant-loop-first : goal.invariant-loop-first
-invariant-loop-first l = Landing l.s l.address l.symbols l.end l.from l.reader.at l.reader.place l.reader.seen
+abbrev pub invariant-loop-run : goal.invariant-loop-run
+invariant-loop-run l = Landing l.s l.address l.symbols l.end l.from l.reader.at l.reader.place l.reader.seen
 
-abbrev pub decreases-loop-first : goal.decreases-loop-first
-decreases-loop-first l = length l.s - l.reader.at
+abbrev pub decreases-loop-run : goal.decreases-loop-run
+decreases-loop-run l = length l.s - l.reader.at

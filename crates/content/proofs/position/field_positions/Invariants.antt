@@ -7,11 +7,11 @@ use Rattle.content.specs.Position.{field_positions, field_positions_from}
 use Rattle.content.proofs.Tokens.{here}
 use Rattle.content.proofs.position.field_positions.Given as goal
 
-abbrev pub invariant-loop-mark : goal.invariant-loop-mark
-invariant-loop-mark l =
+abbrev pub invariant-loop-run : goal.invariant-loop-run
+invariant-loop-run l =
     (l.count ≤ l.reader.at)
     × (l.reader.at ≤ length l.s)
     × (l.count + field_positions_from (here l.reader.place l.reader.seen) (drop l.reader.at l.s) ≡ field_positions l.s)
 
-abbrev pub decreases-loop-mark : goal.decreases-loop-mark
-decreases-loop-mark l = length l.s - l.reader.at
+abbrev pub decreases-loop-run : goal.decreases-loop-run
+decreases-loop-run l = length l.s - l.reader.at

@@ -7,7 +7,7 @@ use Rattle.content.proofs.strip.write.Given as goal
 
 abbrev pub invariant-loop-item : goal.invariant-loop-item
 invariant-loop-item l =
-    Wrote (record { digits = l.digits; entries = l.entries }) l.s l.initial.out l.out l.to l.reader.at l.reader.place l.reader.seen
+    Wrote l.fn.values l.s l.initial.out l.out l.to l.reader.at l.reader.place l.reader.seen
 
 abbrev pub decreases-loop-item : goal.decreases-loop-item
 decreases-loop-item l = length l.s - l.reader.at

@@ -1,21 +1,17 @@
--- `content::test::is_content` meets its contract: the test gives 0 for a content, and 10 for what is none.
-use Prim.Native.Nat.{ℕ}
-use mathlib.Core.Bool.{Bool, true, false}
 use mathlib.Core.List.{List}
-use mathlib.Core.Path.{◌≡◌, refl, ◌∙◌, ap}
-use lib.Dec.{eqb}
-use Rattle.frame.specs.Ground.{placed, plain, unless}
-use Rattle.frame.specs.declared.given.Given.{Given}
-use Rattle.content.specs.Content.{is_content, tested, wrong_place}
+use mathlib.Core.Path.{◌≡◌, refl, sym, ◌∙◌}
+use Prim.Native.Nat.{ℕ}
+use Rattle.std.specs.Prelude.{Result, Ok, Err}
+use Rattle.std.specs.Result.{is_ok}
+use Rattle.frame.specs.Given.{given_in}
+use Rattle.frame.specs.declared.given.Refusal.{Refusal}
+use Rattle.content.specs.Content.{Tests, is_content}
+use Rattle.content.proofs.Told.{test_passes, test_fails}
 use Rattle.content.proofs.test.is_content.Goals as goal
 
-told : (s : List ℕ) {g : Given} → g ≡ tested s → eqb g.number 0 ≡ is_content s
-unfolding tested
-told s e = ap (λ (g : Given). eqb g.number 0) e ∙ go (is_content s) (wrong_place s)
-  where
-    go : (t : Bool) (i : ℕ) → eqb (unless t (placed 10 i) (plain 0)).number 0 ≡ t
-    go true i = refl
-    go false i = refl
+told : (s : List ℕ) (r : Result Unit Refusal) → Tests s (given_in r) → is_ok r ≡ is_content s
+told s (Ok u) t = sym (test_passes t refl)
+told s (Err why) t = sym (test_fails t refl).0
 
 pub returns : goal.returns
-returns c = told c.args.s.now c.test.ensures.answer
+returns c = c.is_ok.ensures.value ∙ told c.args.s.now c.test.result c.test.ensures

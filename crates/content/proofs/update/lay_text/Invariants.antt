@@ -5,8 +5,8 @@ use lib.ListN.{length}
 use Rattle.content.proofs.Laying.{LaidTo}
 use Rattle.content.proofs.update.lay_text.Given as goal
 
-abbrev pub invariant-loop-mark : goal.invariant-loop-mark
-invariant-loop-mark l = LaidTo l.initial.s l.text l.s l.count l.reader.at l.reader.place l.reader.seen
+abbrev pub invariant-loop-run : goal.invariant-loop-run
+invariant-loop-run l = LaidTo l.initial.s l.text l.s l.rest l.reader.at l.reader.place l.reader.seen
 
-abbrev pub decreases-loop-mark : goal.decreases-loop-mark
-decreases-loop-mark l = length l.s - l.reader.at
+abbrev pub decreases-loop-run : goal.decreases-loop-run
+decreases-loop-run l = length l.s - l.reader.at

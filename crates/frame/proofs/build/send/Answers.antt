@@ -4,17 +4,16 @@ use mathlib.Core.Bool.{Bool, true}
 use mathlib.Core.List.{List, ◌++◌, append_assoc}
 use mathlib.Core.Path.{◌≡◌, refl, sym, ◌∙◌, ap, ap₂}
 use native.Mathlib.Omega.{arith}
-use borrow.Author.Tests.{not-true, not-false, le-leb}
 use borrow.Rule.Slice.PartMut.{mid_of, put_mid}
 use lib.ListN.{length, take, drop, length-append, take-append-drop}
 use lib.Seq.{length-take-le, take-append_seam, drop_at}
+use Rattle.std.proofs.Common.{Err, rules}
 use Rattle.frame.specs.Ground.{over}
 use Rattle.frame.specs.Wire.{head_size, around, longest_data}
-use Rattle.frame.specs.Build.{answered, bytes_of, frame, Lays, Wraps, Sends}
-use Rattle.frame.specs.declared.build.Built.{Built}
-use Rattle.frame.specs.declared.build.Built.TheVariants.{Refused}
-use Rattle.frame.proofs.Ground.{tests, length_over, over_under, laid_behind}
-use Rattle.frame.proofs.Told.{frame_length, answered_fits}
+use Rattle.frame.specs.Build.{Built, answered, bytes_of, answer_tests, frame, send_tests, Lays, Wraps, Sends}
+use Rattle.frame.specs.declared.given.Given.{Given}
+use Rattle.frame.proofs.Ground.{length_over, over_under, laid_behind}
+use Rattle.frame.proofs.Told.{frame_length, answered_fits, refused_first}
 use Rattle.frame.proofs.build.send.Goals as goal
 
 -- The buffer when what was lent behind its first three bytes is back.
@@ -61,30 +60,23 @@ module _ (identifier : ℕ) (before d last : List ℕ) (laid : Bool) (h : length
             ∙ ap (λ (x : Built). over (bytes_of x identifier d) before) (sym (e ∙ fits));
       }
 
-pub returns-then-out-n : goal.returns-then-out-n
-returns-then-out-n c = record { answer = ap Refused c.plain.ensures ∙ search tests; buffer = refl }
+-- What an answer's tests refuse is refused before the identifier is asked.
+refused : (before : List ℕ) (identifier : ℕ) (d : List ℕ) (known : Bool) (g : Given) → Err g ≡ answered (length before) (length d) → Sends before identifier d known (Err g) before
+unfolding answered
+refused before identifier d known g e =
+    let n = length d in
+    let asked_last = drop 2 (send_tests (length before) known n) in
+    record { answer = refused_first (answer_tests (length before) n) asked_last n g e; buffer = refl }
 
-pub returns-then-n-gt-DATA : goal.returns-then-n-gt-DATA
-returns-then-n-gt-DATA c = record { answer = ap Refused c.plain-then-n-gt-DATA.ensures ∙ search tests; buffer = refl }
-
-pub returns-then-not-known : goal.returns-then-not-known
-returns-then-not-known c =
+pub returns-in_err-frame_length : goal.returns-in_err-frame_length
+returns-in_err-frame_length c =
     let a = c.args in
-    record {
-      answer =
-          ap Refused c.plain-then-not-known.ensures
-          ∙ rw (
-            le-leb (length a.bytes.now + around) (length a.out.now) (omega arith),
-            le-leb (length a.bytes.now) longest_data (omega arith),
-            not-true a.known c.if-not-known.true-raw,
-          );
-      buffer = refl;
-    }
+    let e : c.from_residual.result ≡ Err c.in_err-frame_length.field-0.0 = search rules in
+    rw e (refused a.out.now a.identifier a.bytes.now a.known _ c.in_err-frame_length.ensures.answer)
 
 pub returns : goal.returns
 returns c =
     let a = c.args in
-    let lay = c.lay in
-    let wrap = c.wrap in
-    written a.identifier a.out.now a.bytes.now lay.new.out lay.result c.if-n-gt-DATA.false c.if-out-n.false lay.ensures
-    a.known wrap.result wrap.new.out (not-false a.known c.if-not-known.false-raw) wrap.ensures
+    let f = c.in_ok-frame_length.ensures.fits in
+    written a.identifier a.out.now a.bytes.now c.lay.new.out c.lay.result (omega (arith, f)) (omega (arith, f)) c.lay.ensures
+    a.known _ c.wrap.new.out c.if-not-known.false c.wrap.ensures

@@ -1,22 +1,21 @@
--- `library::record::record_at` meets its contract. Its tests are those of the rule, read at the place; behind the last of them the record is whole.
-use native.Mathlib.Omega.{arith}
-use Rattle.library.proofs.Walks.{ends_short, ends_long, reads}
+-- `library::record::record_at` meets its contract. Its tests are those of the rule, on the bytes from its place on; behind the last of them the record is whole.
+use Rattle.std.proofs.Common.{◌≡◌, sym, arith, drop}
+use Rattle.std.proofs.lemmas.Grind.{common_steps}
+use Rattle.library.proofs.Walks.{ends_second, ends_long, reads}
 use Rattle.library.proofs.record.record_at.Goals as goal
 
-pub returns-then-size-lt-HEAD : goal.returns-then-size-lt-HEAD
-returns-then-size-lt-HEAD c = let a = c.args in ends_short a.store.now a.at (omega arith)
+pub returns-in_default-2 : goal.returns-in_default-2
+returns-in_default-2 c =
+    let from : c.in_ok-get.field-0.now ≡ drop c.args.at c.args.store.now = grind (arith, common_steps) in
+    ends_second c.args.store.now c.args.at (rw (sym from) (omega arith))
 
-pub returns-then-size-at : goal.returns-then-size-at
-returns-then-size-at c = let a = c.args in ends_short a.store.now a.at (omega arith)
-
-pub returns-then-size-body : goal.returns-then-size-body
-returns-then-size-body c =
-    let a = c.args in
-    let told = c.word-length in
-    ends_long a.store.now a.at told.result told.ensures.value (omega arith)
+pub returns-then-behind-length : goal.returns-then-behind-length
+returns-then-behind-length c =
+    let from : c.in_ok-get.field-0.now ≡ drop c.args.at c.args.store.now = grind (arith, common_steps) in
+    ends_long c.args.store.now c.args.at (rw (sym from) (omega (arith, c.in_ok-get.ensures.lookup, c.word-length.ensures.value)))
 
 pub returns : goal.returns
 returns c =
-    let a = c.args in
+    let from : c.in_ok-get.field-0.now ≡ drop c.args.at c.args.store.now = grind (arith, common_steps) in
     let told = c.word-length in
-    reads a.store.now a.at told.result told.ensures.value (omega arith) (omega arith) (omega arith)
+    reads c.args.store.now c.args.at c.in_ok-get.field-0.now told.result from told.ensures.value (omega arith) (omega arith) (omega arith)

@@ -6,8 +6,8 @@ use Rattle.library.specs.Record.{records}
 use Rattle.library.specs.Store.{body_of}
 use Rattle.library.proofs.store.body.Given as goal
 
-abbrev pub invariant-loop-number : goal.invariant-loop-number
-invariant-loop-number l = (l.at ≤ length l.store) × (body_of l.n (records l.store) ≡ body_of l.n (records (drop l.at l.store)))
+abbrev pub invariant-loop-found : goal.invariant-loop-found
+invariant-loop-found l = (l.at ≤ length l.store) × (body_of l.n (records l.store) ≡ body_of l.n (records (drop l.at l.store)))
 
-abbrev pub decreases-loop-number : goal.decreases-loop-number
-decreases-loop-number l = length l.store - l.at
+abbrev pub decreases-loop-found : goal.decreases-loop-found
+decreases-loop-found l = length l.store - l.at

@@ -2,56 +2,77 @@ use Prim.Native.Nat.{ℕ, ◌+◌, ◌-◌, ◌≤◌}
 use mathlib.Core.List.{List, ◌++◌, append_assoc, append-nil}
 use mathlib.Core.Path.{◌≡◌, refl, sym, ◌∙◌, ap}
 use native.Mathlib.Omega.{arith}
-use lib.ListN.{length, take, drop}
-use lib.Seq.{length-take-le}
+use lib.ListN.{length, take, drop, length-drop}
+use lib.Seq.{drop-drop, drop-paste, length-paste, length-take-le, take-add, take-paste}
+use Rattle.std.specs.List.{copy_within}
 use Rattle.library.specs.Record.{Record, record_bytes, records, step_at, written}
-use Rattle.library.specs.Store.{Closes, moved, without}
-use Rattle.library.specs.StoreLaws.{AllBytes}
-use Rattle.library.specs.declared.record.Step.{Step}
-use Rattle.library.specs.declared.record.Step.TheVariants.{Read}
-use Rattle.library.proofs.Moves.{length_moved, moved_behind, moved_front, same_later}
+use Rattle.library.specs.Store.{Closes, without}
+use Rattle.library.specs.declared.record.Found.{Found}
+use Rattle.std.proofs.Common.{Some}
 use Rattle.library.proofs.Walks.{Walked, Ended, ended, found, others_here, others_past, same_step, walked}
 use Rattle.library.proofs.store.close.Invariants.{Closing}
 use Rattle.library.proofs.store.close.Goals as goal
+use Rattle.library.proofs.store.close.Goals.{then-to-at, else-to-at}
 
-starts : (s : List ℕ) (n : ℕ) → Closing s n s 0 0
-starts s n = record { size = refl; below = omega arith; inside = omega arith; same = refl; kept = refl }
+-- Bytes that are the same from a place on are the same from each later one.
+same_later : (s t : List ℕ) (at end : ℕ) → at ≤ end → drop at s ≡ drop at t → drop end s ≡ drop end t
+same_later s t at end h e =
+    let k : at + (end - at) ≡ end = omega arith in
+    ap (λ (n : ℕ). drop n s) (sym k) ∙ sym (drop-drop (end - at) at s) ∙ ap (drop (end - at)) e ∙ drop-drop (end - at) at t
+    ∙ ap (λ (n : ℕ). drop n t) k
 
 -- What `record_at` finds there it finds in the store as it was.
-walks : {s : List ℕ} {n : ℕ} {now : List ℕ} {at to m end : ℕ} {r : Step} → Closing s n now at to → r ≡ step_at now at → r ≡ Read m end → Walked s at m end
-walks {s} {n} {now} {at} p e q = walked s at (same_step now s at p.same e) q
+walks : {s : List ℕ} {n : ℕ} {now : List ℕ} {at to : ℕ} {f : Found} → Closing s n now at to → Some f ≡ step_at now at → Walked s at f.number f.end
+walks {s} {n} {now} {at} p e = walked s at (same_step now s at p.same e)
 
 module _ {s : List ℕ} {n : ℕ} {now : List ℕ} {at to m end : ℕ} (p : Closing s n now at to) (w : Walked s at m end) where
+  behind : drop end now ≡ drop end s
+  behind = same_later now s at end (omega (arith, w.ahead)) p.same
+
   taken_out : m ≡ n → Closing s n now end to
   taken_out e =
       record {
+        bytes = p.bytes;
         size = p.size;
         below = omega (arith, p.below, w.ahead);
         inside = w.inside;
-        same = same_later now s at end (omega (arith, w.ahead)) p.same;
+        same = behind;
         kept = p.kept ∙ ap (λ (l : List Record). take to now ++ written l) (others_here n w e);
       }
 
-  stays : AllBytes s → (m ≡ n → ⊥) → Closing s n (moved now at (end - at) to) end (to + (end - at))
-  stays f e =
-      let count : ℕ = end - at in
-      let fits : at + count ≤ length now = omega (arith, p.size, w.ahead, w.inside) in
-      let record-here : record_bytes (found s at m end) ≡ take count (drop at now) = w.bytes f ∙ ap (take count) (sym p.same) in
+  -- A record that stays stands at the lower place then, and all behind it is as it was.
+  stays : (after : List ℕ) → (m ≡ n → ⊥)
+      → length after ≡ length now → take (to + (end - at)) after ≡ take to now ++ take (end - at) (drop at now) → drop end after ≡ drop end now
+      → Closing s n after end (to + (end - at))
+  stays after e size front back =
+      let one : record_bytes (found s at m end) ≡ take (end - at) (drop at now) = w.bytes p.bytes ∙ ap (take (end - at)) (sym p.same) in
       let more : List ℕ = written (without n (records (drop end s))) in
       record {
-        size = length_moved now at count to p.below fits ∙ p.size;
+        bytes = p.bytes;
+        size = size ∙ p.size;
         below = omega (arith, p.below, w.ahead);
         inside = w.inside;
-        same =
-            moved_behind now at count to p.below fits end (omega (arith, p.below, w.ahead))
-            ∙ same_later now s at end (omega (arith, w.ahead)) p.same;
+        same = back ∙ behind;
         kept =
             p.kept
             ∙ ap (λ (l : List Record). take to now ++ written l) (others_past n w e)
             ∙ sym (append_assoc (take to now) (record_bytes (found s at m end)) more)
-            ∙ ap (λ (l : List ℕ). (take to now ++ l) ++ more) record-here
-            ∙ ap (λ (l : List ℕ). l ++ more) (sym (moved_front now at count to p.below fits));
+            ∙ ap (λ (l : List ℕ). (take to now ++ l) ++ more) one
+            ∙ ap (λ (l : List ℕ). l ++ more) (sym front);
       }
+
+  moves : (m ≡ n → ⊥) → Closing s n (copy_within now at end to) end (to + (end - at))
+  moves e =
+      let count : ℕ = end - at in
+      let enough : count ≤ length (drop at now) = simp length-drop (omega (arith, p.size, w.inside)) in
+      let fits : to + count ≤ length now = omega (arith, p.size, p.below, w.ahead, w.inside) in
+      stays (copy_within now at end to) e (length-paste now to (drop at now) count fits enough) (take-paste now to (drop at now) count (omega arith) enough)
+      (same_later (copy_within now at end to) now (to + count) end (omega (arith, p.below, w.ahead)) (drop-paste now to (drop at now) count (omega arith) enough))
+
+  lies : (m ≡ n → ⊥) → at ≤ to → Closing s n now end (to + (end - at))
+  lies e h =
+      let here : to ≡ at = omega (arith, p.below) in
+      stays now e refl (take-add to (end - at) now ∙ ap (λ (k : ℕ). take to now ++ take (end - at) (drop k now)) here) refl
 
 closes : {s : List ℕ} {n : ℕ} {now : List ℕ} {at to : ℕ} → Closing s n now at to → Ended s at → Closes s n now
 closes {s} {n} {now} {at} {to} p d =
@@ -60,53 +81,18 @@ closes {s} {n} {now} {at} {to} p d =
     let long : length (written (without n (records s))) ≡ to = ap length all ∙ length-take-le to now (omega (arith, p.size, p.below, p.inside)) in
     record { size = p.size; others = ap (λ (k : ℕ). take k now) long ∙ sym all }
 
-pub loop-number-init : goal.loop-number-init
-loop-number-init c = starts c.args.store.now c.args.n
+pub loop-found-preserved-after-to-at : goal.loop-found-preserved-after-to-at
+loop-found-preserved-after-to-at c =
+    let p = c.loop-found.invariant in
+    let w = walks p c.in-Some.ensures in
+    elim c.if-to-at.branch [
+      | then-to-at v ↦ rw (v.store-is, v.copy_within.ensures.after) (moves p w c.if-found-n.true)
+      | else-to-at v ↦ rw v.store-is (lies p w c.if-found-n.true (omega arith))
+    ]
 
-pub overflow_sub-end : goal.overflow_sub-end
-overflow_sub-end c =
-    let w = walks c.loop-number.invariant c.record_at-step.ensures c.in-Read.is in omega (arith, w.ahead)
+pub loop-found-preserved : goal.loop-found-preserved
+loop-found-preserved c = let p = c.loop-found.invariant in taken_out p (walks p c.in-Some.ensures) c.if-found-n.false
 
-pub move_down-requires : goal.move_down-requires
-move_down-requires c =
-    let w = walks c.loop-number.invariant c.record_at-step.ensures c.in-Read.is in
-    let p = c.loop-number.invariant in
-    (omega (arith, p.below), omega (arith, w.ahead, w.inside, p.size))
-
-pub overflow_sub-to : goal.overflow_sub-to
-overflow_sub-to c =
-    let w = walks c.loop-number.invariant c.record_at-step.ensures c.in-Read.is in omega (arith, w.ahead)
-
-pub overflow_add-to : goal.overflow_add-to
-overflow_add-to c =
-    let w = walks c.loop-number.invariant c.record_at-step.ensures c.in-Read.is in
-    omega (arith, w.ahead, w.inside, c.loop-number.invariant.below)
-
-pub loop-number-smaller-then-number-n : goal.loop-number-smaller-then-number-n
-loop-number-smaller-then-number-n c =
-    let w = walks c.loop-number.invariant c.record_at-step.ensures c.in-Read.is in omega (arith, w.ahead, w.inside)
-
-pub loop-number-preserved-then-number-n : goal.loop-number-preserved-then-number-n
-loop-number-preserved-then-number-n c =
-    let w = walks c.loop-number.invariant c.record_at-step.ensures c.in-Read.is in
-    rw c.move_down.ensures
-    (stays c.loop-number.invariant w (λ i. (c.slice_known-1.given i).fits) c.if-number-n.true)
-
-pub loop-number-smaller : goal.loop-number-smaller
-loop-number-smaller c =
-    let w = walks c.loop-number.invariant c.record_at-step.ensures c.in-Read.is in omega (arith, w.ahead, w.inside)
-
-pub loop-number-preserved : goal.loop-number-preserved
-loop-number-preserved c =
-    let w = walks c.loop-number.invariant c.record_at-step.ensures c.in-Read.is in
-    taken_out c.loop-number.invariant w c.if-number-n.false
-
-pub shape_of-store-in-Ends : goal.shape_of-store-in-Ends
-shape_of-store-in-Ends c =
-    c.loop-number.invariant.size
-
-pub returns-in-Ends : goal.returns-in-Ends
-returns-in-Ends c =
-    let s = c.args.store.now in
-    let l = c.loop-number in
-    closes l.invariant (ended s l.at (same_step l.store s l.at l.invariant.same c.record_at-step.ensures) c.in-Ends.is)
+pub returns : goal.returns
+returns c =
+    let p = c.loop-found.invariant in closes p (ended c.args.store.now c.loop-found.at (same_step c.loop-found.store c.args.store.now c.loop-found.at p.same c.in_default.ensures))

@@ -3,7 +3,7 @@ use mathlib.Core.Bool.{Bool, true, false}
 use mathlib.Core.List.{List, [], ◌∷◌}
 use mathlib.Core.Path.{◌≡◌, refl, sym, ◌∙◌, ap}
 use native.Mathlib.Omega.{arith}
-use borrow.Author.Tests.{eq-eqb, ne_eqb, eqb-true, eqb-false, not-true, not-false}
+use borrow.Author.Tests.{eq-eqb, ne_eqb, eqb-true, eqb-false}
 use lib.Dec.{eqb}
 use lib.ListN.{length, get_or, take, drop, replicate, set, length-drop, length-replicate, length-set, get_or-replicate}
 use lib.Seq.{get_or-set_same, get_or-set_other, take_all}
@@ -15,6 +15,7 @@ use Rattle.library.proofs.Records.{by_test}
 use Rattle.library.proofs.Walks.{Walked, Ended, walked, ended}
 use Rattle.library.proofs.store.is_store.Invariants.{Sifted}
 use Rattle.library.proofs.store.is_store.Goals as goal
+use Rattle.library.proofs.store.is_store.Goals.{then-not-is_number-via-then-not-is_number, then-not-is_number-via-else-not-is_number+then-seen-number}
 
 starts : (s : List ℕ) → length s ≡ store_size → Sifted s (replicate 80 false) 0
 starts s h =
@@ -75,47 +76,25 @@ stops {s} {seen} {at} p d e =
 pub returns-then-store-ne-STORE : goal.returns-then-store-ne-STORE
 returns-then-store-ne-STORE c = other_size c.args.store.now c.if-store-ne-STORE.true
 
-pub loop-number-init : goal.loop-number-init
-loop-number-init c = starts c.args.store.now c.if-store-ne-STORE.false
+pub loop-found-init : goal.loop-found-init
+loop-found-init c = starts c.args.store.now c.if-store-ne-STORE.false
 
 pub returns-then-not-is_number : goal.returns-then-not-is_number
 returns-then-not-is_number c =
-    let w = walked c.args.store.now c.loop-number.at c.record_at-step.ensures c.in-Read.is in
-    no_number c.loop-number.invariant w (sym c.is_number.ensures ∙ not-true _ c.if-not-is_number.true-raw)
+    let p = c.loop-found.invariant in
+    let w = walked c.args.store.now c.loop-found.at c.in-Some.ensures in
+    elim c.then-not-is_number.branch [
+      | then-not-is_number-via-then-not-is_number v ↦ no_number p w (sym c.is_number.ensures ∙ v.if-not-is_number.true)
+      | then-not-is_number-via-else-not-is_number+then-seen-number v ↦
+          seen_before p w (sym c.is_number.ensures ∙ v.if-not-is_number.false) (rw c.from-number.ensures at v.if-seen-number.true)
+    ]
 
-pub bounds-seen-number : goal.bounds-seen-number
-bounds-seen-number c =
-    let numbered : is_number c.in-Read.number ≡ true = sym c.is_number.ensures ∙ not-false _ c.if-not-is_number.false-raw in
-    below _ numbered
+pub loop-found-preserved : goal.loop-found-preserved
+loop-found-preserved c =
+    let w = walked c.args.store.now c.loop-found.at c.in-Some.ensures in
+    rw c.from-number.ensures
+    (goes_on c.loop-found.invariant w (sym c.is_number.ensures ∙ c.if-not-is_number.false) (rw c.from-number.ensures at c.if-seen-number.false))
 
-pub returns-then-seen-number : goal.returns-then-seen-number
-returns-then-seen-number c =
-    let w = walked c.args.store.now c.loop-number.at c.record_at-step.ensures c.in-Read.is in
-    let numbered : is_number c.in-Read.number ≡ true = sym c.is_number.ensures ∙ not-false _ c.if-not-is_number.false-raw in
-    seen_before c.loop-number.invariant w numbered c.if-seen-number.true
-
-pub bounds-seen-number-in-Read : goal.bounds-seen-number-in-Read
-bounds-seen-number-in-Read c =
-    let numbered : is_number c.in-Read.number ≡ true = sym c.is_number.ensures ∙ not-false _ c.if-not-is_number.false-raw in
-    below _ numbered
-
-pub loop-number-smaller : goal.loop-number-smaller
-loop-number-smaller c =
-    let w = walked c.args.store.now c.loop-number.at c.record_at-step.ensures c.in-Read.is in omega (arith, w.ahead, w.inside)
-
-pub loop-number-preserved : goal.loop-number-preserved
-loop-number-preserved c =
-    let w = walked c.args.store.now c.loop-number.at c.record_at-step.ensures c.in-Read.is in
-    let numbered : is_number c.in-Read.number ≡ true = sym c.is_number.ensures ∙ not-false _ c.if-not-is_number.false-raw in
-    goes_on c.loop-number.invariant w numbered c.if-seen-number.false
-
-pub slice_bounds-blank-count : goal.slice_bounds-blank-count
-slice_bounds-blank-count c = c.loop-number.invariant.inside
-
-pub slice_bounds-blank-start : goal.slice_bounds-blank-start
-slice_bounds-blank-start c = c.loop-number.invariant.inside
-
-pub returns-in-Ends : goal.returns-in-Ends
-returns-in-Ends c =
-    stops c.loop-number.invariant (ended c.args.store.now c.loop-number.at c.record_at-step.ensures c.in-Ends.is)
-    c.blank.ensures
+pub returns : goal.returns
+returns c =
+    stops c.loop-found.invariant (ended c.args.store.now c.loop-found.at c.in_default.ensures) c.blank.ensures

@@ -20,8 +20,8 @@ pub record Sifted (s : List ℕ) (seen : List Bool) (at : ℕ) : Type 0 where
   pub numbers : fit (records s) ≡ fit_behind before (records (drop at s))
   pub behind : rest s ≡ rest (drop at s)
 
-abbrev pub invariant-loop-number : goal.invariant-loop-number
-invariant-loop-number l = Sifted l.store l.seen l.at
+abbrev pub invariant-loop-found : goal.invariant-loop-found
+invariant-loop-found l = Sifted l.store l.seen l.at
 
-abbrev pub decreases-loop-number : goal.decreases-loop-number
-decreases-loop-number l = length l.store - l.at
+abbrev pub decreases-loop-found : goal.decreases-loop-found
+decreases-loop-found l = length l.store - l.at

@@ -2,13 +2,13 @@
 use Prim.Native.Nat.{ℕ, ◌+◌, ◌-◌}
 use mathlib.Core.Bool.{true, false}
 use mathlib.Core.List.{List}
-use mathlib.Core.Path.{◌≡◌, sym, ◌∙◌, ap, ap₂}
+use mathlib.Core.Path.{◌≡◌, refl, sym, ◌∙◌, ap, ap₂}
 use native.Mathlib.Omega.{arith}
+use borrow.Author.Rules.{rules}
 use borrow.Author.Tests.{eq-eqb, ne_eqb, lt-ltb, le-ltb}
 use borrow.Rule.Slice.PartMut.{mid_of}
 use lib.Dec.{ltb}
 use lib.ListN.{take, drop}
-use lib.Seq.{length-take-le}
 use Rattle.frame.specs.Ground.{placed}
 use Rattle.frame.proofs.Ground.{lent_tail}
 use Rattle.content.proofs.Front.{all_in_front, some_other}
@@ -23,13 +23,11 @@ use Rattle.printer.proofs.Head.{second_stands, second_short, both_written}
 use Rattle.printer.proofs.change.update_fields.Goals as goal
 
 -- Where the two jets stand, and how many positions they have.
-first : (m : List ℕ) {at n h : ℕ} → valid_state m ≡ true → Bytes m → at ≡ jet_place n → n ≡ head_jet h 0 → h ≡ 1 → Stands m 1 at
-first m v known p e f =
-    record { full = valid_size m v; known = known; place = omega arith; least = omega arith; most = omega arith }
+first : (m : List ℕ) {at : ℕ} → valid_state m ≡ true → Bytes m → at ≡ jet_place (head_jet 1 0) → Stands m 1 at
+first m v known p = record { full = valid_size m v; known = known; place = p; least = omega arith; most = omega arith }
 
-second : (m : List ℕ) {at n h : ℕ} → valid_state m ≡ true → Bytes m → at ≡ jet_place n → n ≡ head_jet h 1 → h ≡ 1 → Stands m 2 at
-second m v known p e f =
-    record { full = valid_size m v; known = known; place = omega arith; least = omega arith; most = omega arith }
+second : (m : List ℕ) {at : ℕ} → valid_state m ≡ true → Bytes m → at ≡ jet_place (head_jet 1 1) → Stands m 2 at
+second m v known p = record { full = valid_size m v; known = known; place = p; least = omega arith; most = omega arith }
 
 counted : {m : List ℕ} {a b j k : ℕ} → Stands m 1 a → Stands m 2 b
     → j ≡ positions (jet_of (mid_of a (a + jet_size - a) m))
@@ -43,94 +41,77 @@ none_left {s} {k} e z = le-ltb 0 k (omega arith)
 some_left : {s k : ℕ} → s ≡ k → (s ≡ 0 → ⊥) → ltb 0 k ≡ true
 some_left {s} {k} e n = lt-ltb 0 k (omega arith)
 
-pub slice_bounds-positions-end : goal.slice_bounds-positions-end
-slice_bounds-positions-end c =
-    let s = first c.args.state.now c.requires c.slice_known-1.given c.jet_place-first.ensures.0 c.head_jet.ensures c.first_head.ensures in
+pub slice_bounds-jet_1-end : goal.slice_bounds-jet_1-end
+slice_bounds-jet_1-end c =
+    let s = first c.args.state.now c.requires (search rules) c.head_place-first.ensures.0 in
     part_inside s
 
 pub positions-taken-requires : goal.positions-taken-requires
 positions-taken-requires c =
-    let s = first c.args.state.now c.requires c.slice_known-1.given c.jet_place-first.ensures.0 c.head_jet.ensures c.first_head.ensures in
-    (part_size s, part_short s c.requires)
+    let s = first c.args.state.now c.requires (search rules) c.head_place-first.ensures.0 in
+    part_short s c.requires
 
-pub slice_bounds-positions-end-2 : goal.slice_bounds-positions-end-2
-slice_bounds-positions-end-2 c =
-    let t = second c.args.state.now c.requires c.slice_known-1.given c.jet_place-second.ensures.0 c.head_jet-2.ensures c.first_head-2.ensures in
+pub slice_bounds-jet_2-end : goal.slice_bounds-jet_2-end
+slice_bounds-jet_2-end c =
+    let t = second c.args.state.now c.requires (search rules) c.head_place-second.ensures.0 in
     part_inside t
 
 pub positions-requires : goal.positions-requires
 positions-requires c =
-    let t = second c.args.state.now c.requires c.slice_known-1.given c.jet_place-second.ensures.0 c.head_jet-2.ensures c.first_head-2.ensures in
-    (part_size t, part_short t c.requires)
+    let t = second c.args.state.now c.requires (search rules) c.head_place-second.ensures.0 in
+    part_short t c.requires
 
 pub returns-then-all-eq0 : goal.returns-then-all-eq0
 unfolding update_fields
 returns-then-all-eq0 c =
-    let s = first c.args.state.now c.requires c.slice_known-1.given c.jet_place-first.ensures.0 c.head_jet.ensures c.first_head.ensures in
-    let t = second c.args.state.now c.requires c.slice_known-1.given c.jet_place-second.ensures.0 c.head_jet-2.ensures c.first_head-2.ensures in
+    let s = first c.args.state.now c.requires (search rules) c.head_place-first.ensures.0 in
+    let t = second c.args.state.now c.requires (search rules) c.head_place-second.ensures.0 in
     let all = counted s t c.positions-taken.ensures.0 c.positions.ensures.0 in
-    refused c.plain.ensures (here (none_left all c.if-all-eq0.true))
+    refused refl (here (none_left all c.if-all-eq0.true))
 
 pub returns-then-text-all : goal.returns-then-text-all
 unfolding update_fields
 returns-then-text-all c =
-    let s = first c.args.state.now c.requires c.slice_known-1.given c.jet_place-first.ensures.0 c.head_jet.ensures c.first_head.ensures in
-    let t = second c.args.state.now c.requires c.slice_known-1.given c.jet_place-second.ensures.0 c.head_jet-2.ensures c.first_head-2.ensures in
+    let s = first c.args.state.now c.requires (search rules) c.head_place-first.ensures.0 in
+    let t = second c.args.state.now c.requires (search rules) c.head_place-second.ensures.0 in
     let all = counted s t c.positions-taken.ensures.0 c.positions.ensures.0 in
-    refused c.plain-then-text-all.ensures (past (some_left all c.if-all-eq0.false) (here (ne_eqb _ _ (λ e. c.if-text-all.true (e ∙ sym all)))))
+    refused refl (past (some_left all c.if-all-eq0.false) (here (ne_eqb _ _ (λ e. c.if-text-all.true (e ∙ sym all)))))
 
 pub returns-then-i-all : goal.returns-then-i-all
 unfolding update_fields
 returns-then-i-all c =
-    let s = first c.args.state.now c.requires c.slice_known-1.given c.jet_place-first.ensures.0 c.head_jet.ensures c.first_head.ensures in
-    let t = second c.args.state.now c.requires c.slice_known-1.given c.jet_place-second.ensures.0 c.head_jet-2.ensures c.first_head-2.ensures in
+    let s = first c.args.state.now c.requires (search rules) c.head_place-first.ensures.0 in
+    let t = second c.args.state.now c.requires (search rules) c.head_place-second.ensures.0 in
     let all = counted s t c.positions-taken.ensures.0 c.positions.ensures.0 in
     let front = c.characters_in_front-i.ensures in
-    refused (c.placed.ensures ∙ ap (placed 13) front)
+    refused (ap (placed 13) front)
     (past (some_left all c.if-all-eq0.false)
     (past (eq-eqb _ _ (c.if-text-all.false ∙ all))
     (here (some_other c.args.text.now (omega (arith, c.if-i-all.true, front, c.if-text-all.false))))))
 
-pub slice_bounds-update_jet-end : goal.slice_bounds-update_jet-end
-slice_bounds-update_jet-end c =
-    let s = first c.args.state.now c.requires c.slice_known-1.given c.jet_place-first.ensures.0 c.head_jet.ensures c.first_head.ensures in
-    part_inside s
-
-pub slice_bounds-update_jet-end-2 : goal.slice_bounds-update_jet-end-2
-slice_bounds-update_jet-end-2 c =
-    sym (length-take-le _ _ (omega (arith, c.if-text-all.false)))
-
 pub update_jet-requires : goal.update_jet-requires
 update_jet-requires c =
-    let s = first c.args.state.now c.requires c.slice_known-1.given c.jet_place-first.ensures.0 c.head_jet.ensures c.first_head.ensures in
+    let s = first c.args.state.now c.requires (search rules) c.head_place-first.ensures.0 in
     (part_size s, part_short s c.requires)
-
--- The second jet when the first is written.
-pub slice_bounds-update_jet-end-3 : goal.slice_bounds-update_jet-end-3
-slice_bounds-update_jet-end-3 c =
-    let s = first c.args.state.now c.requires c.slice_known-1.given c.jet_place-first.ensures.0 c.head_jet.ensures c.first_head.ensures in
-    let t = second c.args.state.now c.requires c.slice_known-1.given c.jet_place-second.ensures.0 c.head_jet-2.ensures c.first_head-2.ensures in
-    let still = second_stands s t c.update_jet.new.jet c.update_jet.auto.jet c.slice_known-2-1.given in
-    part_inside still
 
 pub update_jet-requires-2 : goal.update_jet-requires-2
 update_jet-requires-2 c =
-    let s = first c.args.state.now c.requires c.slice_known-1.given c.jet_place-first.ensures.0 c.head_jet.ensures c.first_head.ensures in
-    let t = second c.args.state.now c.requires c.slice_known-1.given c.jet_place-second.ensures.0 c.head_jet-2.ensures c.first_head-2.ensures in
-    let still = second_stands s t c.update_jet.new.jet c.update_jet.auto.jet c.slice_known-2-1.given in
+    let s = first c.args.state.now c.requires (search rules) c.head_place-first.ensures.0 in
+    let t = second c.args.state.now c.requires (search rules) c.head_place-second.ensures.0 in
+    let still = second_stands s t c.update_jet.new.jet c.update_jet.auto.jet (search rules) in
     (part_size still, second_short s t c.update_jet.new.jet c.update_jet.auto.jet c.requires)
 
 pub returns : goal.returns
 unfolding update_fields
 returns c =
-    let s = first c.args.state.now c.requires c.slice_known-1.given c.jet_place-first.ensures.0 c.head_jet.ensures c.first_head.ensures in
-    let t = second c.args.state.now c.requires c.slice_known-1.given c.jet_place-second.ensures.0 c.head_jet-2.ensures c.first_head-2.ensures in
+    let s = first c.args.state.now c.requires (search rules) c.head_place-first.ensures.0 in
+    let t = second c.args.state.now c.requires (search rules) c.head_place-second.ensures.0 in
     let all = counted s t c.positions-taken.ensures.0 c.positions.ensures.0 in
     let taken : c.positions-taken.result ≡ positions (first_of_head (printer_of c.args.state.now)) = rw (part_jet s) at c.positions-taken.ensures.0 in
     let text = c.args.text.now in
     let n = positions (first_of_head (printer_of c.args.state.now)) in
     let characters = all_in_front text (omega (arith, c.if-i-all.false, c.characters_in_front-i.ensures, c.if-text-all.false)) in
-    obeyed c.plain-2.ensures (holds (some_left all c.if-all-eq0.false) (holds (eq-eqb _ _ (c.if-text-all.false ∙ all)) (holds characters end)))
+    obeyed refl (holds (some_left all c.if-all-eq0.false) (holds (eq-eqb _ _ (c.if-text-all.false ∙ all)) (holds characters end)))
     (both_written s t c.update_jet.new.jet c.update_jet.auto.jet
     (λ (j : Jet). updated_jet j (take n text)) (λ (j : Jet). updated_jet j (drop n text))
     (rw taken at c.update_jet.ensures) (rw (lent_tail, taken) at c.update_jet-2.ensures))

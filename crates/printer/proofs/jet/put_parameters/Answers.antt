@@ -2,7 +2,7 @@
 use borrow.Author.Rules.{rules}
 use mathlib.Core.Path.{sym, ◌∙◌, ap}
 use native.Mathlib.Omega.{arith}
-use lib.ListN.{length-drop}
+use lib.ListN.{length-drop, length-take}
 use lib.Seq.{length-take-le}
 use Rattle.frame.proofs.Ground.{lent_tail}
 use Rattle.printer.specs.Counter.{good_settings}
@@ -10,9 +10,12 @@ use Rattle.printer.specs.Jet.{good_parameters}
 use Rattle.printer.proofs.Jets.{parameters_left}
 use Rattle.printer.proofs.jet.put_parameters.Goals as goal
 
-pub slice_bounds-lay-end-2 : goal.slice_bounds-lay-end-2
-slice_bounds-lay-end-2 c =
+pub slice_bounds-copy_from_slice-end-2 : goal.slice_bounds-copy_from_slice-end-2
+slice_bounds-copy_from_slice-end-2 c =
     sym (length-take-le 11 c.args.q.now (omega arith))
+
+pub copy_from_slice-requires : goal.copy_from_slice-requires
+copy_from_slice-requires c = simp (length-take, length-drop) (omega arith)
 
 pub set_to-requires : goal.set_to-requires
 unfolding good_parameters
@@ -22,5 +25,5 @@ set_to-requires c =
 pub returns : goal.returns
 returns c =
     parameters_left c.args.jet.now c.requires.0 c.slice_known-1.given c.args.q.now c.requires.1
-    c.lay.ensures
+    c.copy_from_slice.ensures.after
     c.set_to.ensures

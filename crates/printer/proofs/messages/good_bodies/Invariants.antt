@@ -6,8 +6,8 @@ use Rattle.library.specs.Record.{records}
 use Rattle.printer.specs.Messages.{good_bodies}
 use Rattle.printer.proofs.messages.good_bodies.Given as goal
 
-abbrev pub invariant-loop-end : goal.invariant-loop-end
-invariant-loop-end l = (l.at ≤ length l.store) × (good_bodies (records l.store) ≡ good_bodies (records (drop l.at l.store)))
+abbrev pub invariant-loop-found : goal.invariant-loop-found
+invariant-loop-found l = (l.at ≤ length l.store) × (good_bodies (records l.store) ≡ good_bodies (records (drop l.at l.store)))
 
-abbrev pub decreases-loop-end : goal.decreases-loop-end
-decreases-loop-end l = length l.store - l.at
+abbrev pub decreases-loop-found : goal.decreases-loop-found
+decreases-loop-found l = length l.store - l.at

@@ -1,8 +1,9 @@
 use Prim.Native.Nat.{ℕ}
-use mathlib.Core.List.{List, [], ◌∷◌}
-use mathlib.Core.Path.{ap}
+use mathlib.Core.List.{List}
+use mathlib.Core.Path.{◌≡◌, ◌∙◌, ap}
 use native.Mathlib.Omega.{arith}
-use lib.ListN.{get_or}
+use borrow.Author.Rules.{rules}
+use lib.ListN.{drop, take}
 use Rattle.printer.specs.Number.{digits}
 use Rattle.printer.proofs.Powers.{none_yet, at_most_9, some, subtracted, goes_on, all_ten}
 use Rattle.printer.proofs.number.digits.Goals as goal
@@ -27,7 +28,6 @@ loop-i-preserved c = goes_on (omega arith) (omega arith) c.loop-i.invariant
 
 pub returns : goal.returns
 unfolding digits
-returns c = ap nine (all_ten (omega arith) c.loop-i.invariant)
-  where
-    nine : List ℕ → List ℕ
-    nine l = get_or l 1 0 ∷ get_or l 2 0 ∷ get_or l 3 0 ∷ get_or l 4 0 ∷ get_or l 5 0 ∷ get_or l 6 0 ∷ get_or l 7 0 ∷ get_or l 8 0 ∷ get_or l 9 0 ∷ []
+returns c =
+    let behind : c.unwrap.result ≡ take 9 (drop 1 c.loop-i.row) = search rules in
+    behind ∙ ap (λ (l : List ℕ). take 9 (drop 1 l)) (all_ten (omega arith) c.loop-i.invariant)

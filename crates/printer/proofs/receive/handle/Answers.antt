@@ -2,21 +2,22 @@
 use Prim.Native.Nat.{ℕ, ◌+◌, ◌-◌, ◌≤◌}
 use mathlib.Core.Bool.{true}
 use mathlib.Core.List.{List}
-use mathlib.Core.Path.{◌≡◌, refl, sym, ◌∙◌, ap, subst}
+use mathlib.Core.Path.{◌≡◌, refl, sym, ◌∙◌, ap}
 use native.Mathlib.Omega.{arith}
+use Rattle.std.proofs.Common.{Ok}
 use lib.ListN.{length, take, drop, length-drop}
 use lib.Seq.{length-take-le}
 use Rattle.frame.specs.Wire.{fits, size_of}
 use Rattle.frame.specs.Receive.{received}
 use Rattle.frame.specs.declared.receive.Received.{Received}
-use Rattle.frame.specs.declared.receive.Received.TheVariants.{Refused, Misfit, Frame}
-use Rattle.frame.proofs.Heard.{Sound, sound, update_inside, frame_inside, frame_fits}
+use Rattle.frame.specs.declared.receive.Received.TheVariants.{Frame}
+use Rattle.frame.proofs.Heard.{update_inside, frame_inside, frame_fits}
 use Rattle.printer.specs.State.{printer_of}
 use Rattle.printer.specs.Change.{update_fields}
 use Rattle.printer.specs.Receive.{Fulfils, handled, enquire}
 use Rattle.printer.specs.declared.answer.Answered.{Answered}
 use Rattle.printer.proofs.OrderLaws.{update_stores}
-use Rattle.printer.proofs.Said.{one_byte, meets_silent, meets_refusal, meets_changed, fulfils_same, fulfils_obeyed, fields_change, enquiry_changes}
+use Rattle.printer.proofs.Said.{meets_changed, fulfils_same, fulfils_obeyed, fields_change, enquiry_changes}
 use Rattle.printer.proofs.Memory.{state_back}
 use Rattle.printer.proofs.Valid.{valid_size}
 use Rattle.printer.proofs.receive.handle.Goals as goal
@@ -26,12 +27,6 @@ heard : (m store s : List ℕ) {found variant : Received} {answer strips : List 
     → Fulfils (handled (printer_of m) store s variant) m store answer strips a m' store' answer' strips'
     → Fulfils (handled (printer_of m) store s (received s)) m store answer strips a m' store' answer' strips'
 heard m store s e f x = fulfils_same (ap (handled (printer_of m) store s) (sym e ∙ f)) x
-
-refused_number : (s : List ℕ) {k c : ℕ} → received s ≡ Refused k c → k ≡ 0 → ⊥
-refused_number s {k} e z = let h : 4 ≤ k = subst (Sound s) e (sound s) in omega arith
-
-misfit_number : (s : List ℕ) {k i n c : ℕ} → received s ≡ Misfit k i n c → k ≡ 0 → ⊥
-misfit_number s {k} e z = let h : 4 ≤ k = subst (Sound s) e (sound s) in omega arith
 
 -- The part that is handed on.
 part_is : (a n : ℕ) (s : List ℕ) → take (a + n - a) (drop a s) ≡ take n (drop a s)
@@ -47,53 +42,33 @@ part_fits s {n = n} e =
 
 pub overflow_add-size : goal.overflow_add-size
 overflow_add-size c =
-    omega (arith, update_inside c.args.s.now (sym c.receive-found.ensures.answer ∙ c.in-Update.is), c.well_formed.1.1.0)
+    omega (arith, update_inside c.args.s.now (sym c.receive.ensures.answer ∙ c.in-Update.is), c.well_formed.1.1.0)
 
 pub slice_bounds-update_fields-end : goal.slice_bounds-update_fields-end
 slice_bounds-update_fields-end c =
-    omega (arith, update_inside c.args.s.now (sym c.receive-found.ensures.answer ∙ c.in-Update.is))
+    omega (arith, update_inside c.args.s.now (sym c.receive.ensures.answer ∙ c.in-Update.is))
 
 pub overflow_add-size-in-Frame : goal.overflow_add-size-in-Frame
 overflow_add-size-in-Frame c =
-    omega (arith, frame_inside c.args.s.now (sym c.receive-found.ensures.answer ∙ c.in-Frame.is), c.well_formed.1.1.0)
+    omega (arith, frame_inside c.args.s.now (sym c.receive.ensures.answer ∙ c.in-Frame.is), c.well_formed.1.1.0)
 
 pub slice_bounds-obey-end : goal.slice_bounds-obey-end
 slice_bounds-obey-end c =
-    omega (arith, frame_inside c.args.s.now (sym c.receive-found.ensures.answer ∙ c.in-Frame.is))
+    omega (arith, frame_inside c.args.s.now (sym c.receive.ensures.answer ∙ c.in-Frame.is))
 
 pub obey-requires : goal.obey-requires
 obey-requires c =
-    (c.requires.0, c.requires.1, c.requires.2, c.requires.3, part_fits c.args.s.now (sym c.receive-found.ensures.answer ∙ c.in-Frame.is))
-
-pub returns-in-Partial : goal.returns-in-Partial
-returns-in-Partial c =
-    heard c.args.state.now c.args.store.now c.args.s.now c.receive-found.ensures.answer c.in-Partial.is
-    (record { meets = meets_silent (printer_of c.args.state.now) c.args.state.now c.args.answer.now c.args.strips.now (λ z. omega arith) c.silent.ensures; stores = refl })
-
-pub returns-in-Refused : goal.returns-in-Refused
-returns-in-Refused c =
-    heard c.args.state.now c.args.store.now c.args.s.now c.receive-found.ensures.answer c.in-Refused.is
-    (record { meets = meets_refusal (printer_of c.args.state.now) c.args.state.now c.args.strips.now (refused_number c.args.s.now (sym c.receive-found.ensures.answer ∙ c.in-Refused.is)) (one_byte _ c.args.answer.now (omega arith)) (rw c.plain.ensures at c.settle.ensures); stores = refl })
-
-pub returns-in-Misfit : goal.returns-in-Misfit
-returns-in-Misfit c =
-    heard c.args.state.now c.args.store.now c.args.s.now c.receive-found.ensures.answer c.in-Misfit.is
-    (record { meets = meets_refusal (printer_of c.args.state.now) c.args.state.now c.args.strips.now (misfit_number c.args.s.now (sym c.receive-found.ensures.answer ∙ c.in-Misfit.is)) (one_byte _ c.args.answer.now (omega arith)) (rw c.plain-in-Misfit.ensures at c.settle-in-Misfit.ensures); stores = refl })
+    (c.requires, part_fits c.args.s.now (sym c.receive.ensures.answer ∙ c.in-Frame.is))
 
 pub returns-in-Enquiry : goal.returns-in-Enquiry
 returns-in-Enquiry c =
-    heard c.args.state.now c.args.store.now c.args.s.now c.receive-found.ensures.answer c.in-Enquiry.is
+    heard c.args.state.now c.args.store.now c.args.s.now c.receive.ensures.answer c.in-Enquiry.is
     (fulfils_obeyed (printer_of c.args.state.now) (enquire (printer_of c.args.state.now)) 1 c.args.store.now refl
-    (meets_changed (printer_of c.args.state.now) (enquire (printer_of c.args.state.now)) c.args.strips.now (enquiry_changes (printer_of c.args.state.now)) (omega arith) (record { gives = c.plain-in-Enquiry.ensures; state = sym (state_back c.args.state.now (valid_size c.args.state.now c.requires.0) c.type_inv.state) }) c.settle-in-Enquiry.ensures))
+    (meets_changed (printer_of c.args.state.now) (enquire (printer_of c.args.state.now)) (Ok tt) c.args.strips.now (enquiry_changes (printer_of c.args.state.now)) (omega arith) (record { gives = refl; state = sym (state_back c.args.state.now (valid_size c.args.state.now c.requires.valid) c.type_inv.state) }) c.settle.ensures))
 
 pub returns-in-Update : goal.returns-in-Update
 returns-in-Update c =
     let text = take c.in-Update.size (drop 1 c.args.s.now) in
-    heard c.args.state.now c.args.store.now c.args.s.now c.receive-found.ensures.answer c.in-Update.is
+    heard c.args.state.now c.args.store.now c.args.s.now c.receive.ensures.answer c.in-Update.is
     (fulfils_obeyed (printer_of c.args.state.now) (update_fields (printer_of c.args.state.now) text) _ c.args.store.now (update_stores (printer_of c.args.state.now) text)
-    (meets_changed (printer_of c.args.state.now) (update_fields (printer_of c.args.state.now) text) c.args.strips.now (fields_change (printer_of c.args.state.now) text) (omega arith) (rw (part_is 1 c.in-Update.size c.args.s.now) at c.update_fields.ensures) c.settle-in-Update.ensures))
-
-pub returns-in-Frame : goal.returns-in-Frame
-returns-in-Frame c =
-    heard c.args.state.now c.args.store.now c.args.s.now c.receive-found.ensures.answer c.in-Frame.is
-    (rw (part_is 3 c.in-Frame.size c.args.s.now) at c.obey.ensures)
+    (meets_changed (printer_of c.args.state.now) (update_fields (printer_of c.args.state.now) text) c.update_fields.result c.args.strips.now (fields_change (printer_of c.args.state.now) text) (omega arith) (rw (part_is 1 c.in-Update.size c.args.s.now) at c.update_fields.ensures) (rw c.bare.ensures at c.settle-in-Update.ensures)))

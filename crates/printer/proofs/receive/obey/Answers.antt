@@ -19,42 +19,42 @@ use Rattle.printer.proofs.receive.obey.Goals as goal
 
 stores : (p : Printer) (store : List ℕ) {identifier : ℕ} (d : List ℕ) → identifier ≡ 0x1C → order p store identifier d ≡ store_message p store d
 unfolding order
-stores p store d e = search tests
+stores p store d e = ap (λ (i : ℕ). order p store i d) e
 
-selects : (p : Printer) (store : List ℕ) {identifier : ℕ} (d : List ℕ) → (identifier ≡ 0x1C → ⊥) → identifier ≡ 0x40 → order p store identifier d ≡ select_message p store d
+selects : (p : Printer) (store : List ℕ) {identifier : ℕ} (d : List ℕ) → identifier ≡ 0x40 → order p store identifier d ≡ select_message p store d
 unfolding order
-selects p store d n e = search tests
-
-others : (p : Printer) (store : List ℕ) (identifier : ℕ) (d : List ℕ) → (identifier ≡ 0x1C → ⊥) → (identifier ≡ 0x40 → ⊥) → order p store identifier d ≡ printer_order p identifier d
-unfolding order
-others p store identifier d n₁ n₂ = search tests
+selects p store d e = ap (λ (i : ℕ). order p store i d) e
 
 pub store_message-requires : goal.store_message-requires
 unfolding size_of
 store_message-requires c =
-    (c.requires.1, leb-true 39 _ (row c.args.identifier 0x1C (length c.args.d.now) c.if-identifier-eq28.true c.requires.4))
+    (c.requires.0.formed, leb-true 39 _ (row c.args.identifier 0x1C (length c.args.d.now) c.in-28.is c.requires.1))
 
-pub returns-then-identifier-eq28 : goal.returns-then-identifier-eq28
-returns-then-identifier-eq28 c =
-    fulfils_same (ap (λ (o : Order). obeyed (printer_of c.args.state.now) o c.args.consumed) (stores (printer_of c.args.state.now) c.args.store.now c.args.d.now c.if-identifier-eq28.true))
-    (fulfils_stored (printer_of c.args.state.now) c.args.store.now c.args.d.now c.args.strips.now (state_back c.args.state.now (valid_size _ c.requires.0) c.type_inv.state) (omega arith) c.store_message.ensures c.settle.ensures)
+pub returns-in-28 : goal.returns-in-28
+returns-in-28 c =
+    let p = printer_of c.args.state.now in
+    fulfils_same (ap (λ (o : Order). obeyed p o c.args.consumed) (stores p c.args.store.now c.args.d.now c.in-28.is))
+    (fulfils_stored p c.args.store.now c.args.d.now c.store_message.result c.args.strips.now (state_back c.args.state.now (valid_size _ c.requires.0.valid) c.type_inv.state) (omega arith)
+    c.store_message.ensures (rw c.bare.ensures at c.settle.ensures))
 
 pub select_message-requires : goal.select_message-requires
 unfolding size_of
 select_message-requires c =
-    (c.requires.0, c.requires.1, exactly (row c.args.identifier 0x40 (length c.args.d.now) c.if-identifier-eq64.true c.requires.4))
+    (c.requires.0.valid, c.requires.0.formed, exactly (row c.args.identifier 0x40 (length c.args.d.now) c.in-64.is c.requires.1))
 
-pub returns-then-identifier-eq64 : goal.returns-then-identifier-eq64
-returns-then-identifier-eq64 c =
-    fulfils_same (ap (λ (o : Order). obeyed (printer_of c.args.state.now) o c.args.consumed) (selects (printer_of c.args.state.now) c.args.store.now c.args.d.now c.if-identifier-eq28.false c.if-identifier-eq64.true))
-    (fulfils_obeyed (printer_of c.args.state.now) (select_message (printer_of c.args.state.now) c.args.store.now c.args.d.now) c.args.consumed c.args.store.now (select_unchanged (printer_of c.args.state.now) c.args.store.now c.args.d.now)
-    (meets_changed (printer_of c.args.state.now) (select_message (printer_of c.args.state.now) c.args.store.now c.args.d.now) c.args.strips.now (select_changes (printer_of c.args.state.now) c.args.store.now c.args.d.now) (omega arith) c.select_message.ensures c.settle-then-identifier-eq64.ensures))
+pub returns-in-64 : goal.returns-in-64
+returns-in-64 c =
+    let p = printer_of c.args.state.now in
+    let store = c.args.store.now in
+    let d = c.args.d.now in
+    fulfils_same (ap (λ (o : Order). obeyed p o c.args.consumed) (selects p store d c.in-64.is))
+    (fulfils_obeyed p (select_message p store d) c.args.consumed store (select_unchanged p store d)
+    (meets_changed p (select_message p store d) c.select_message.result c.args.strips.now (select_changes p store d) (omega arith) c.select_message.ensures (rw c.bare-in-64.ensures at c.settle-in-64.ensures)))
 
-pub obey_printer-requires : goal.obey_printer-requires
-obey_printer-requires c =
-    (c.requires.0, c.requires.2, c.requires.3, c.requires.4)
-
-pub returns : goal.returns
-returns c =
-    fulfils_same (ap (λ (o : Order). obeyed (printer_of c.args.state.now) o c.args.consumed) (others (printer_of c.args.state.now) c.args.store.now c.args.identifier c.args.d.now c.if-identifier-eq28.false c.if-identifier-eq64.false))
-    (fulfils_obeyed (printer_of c.args.state.now) (printer_order (printer_of c.args.state.now) c.args.identifier c.args.d.now) c.args.consumed c.args.store.now (printer_unchanged (printer_of c.args.state.now) c.args.identifier c.args.d.now) c.obey_printer.ensures)
+pub returns-in_default : goal.returns-in_default
+unfolding order
+returns-in_default c =
+    let p = printer_of c.args.state.now in
+    let own : order p c.args.store.now c.args.identifier c.args.d.now ≡ printer_order p c.args.identifier c.args.d.now = search tests in
+    fulfils_same (ap (λ (o : Order). obeyed p o c.args.consumed) own)
+    (fulfils_obeyed p (printer_order p c.args.identifier c.args.d.now) c.args.consumed c.args.store.now (printer_unchanged p c.args.identifier c.args.d.now) c.obey_printer.ensures)

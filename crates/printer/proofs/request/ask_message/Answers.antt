@@ -8,7 +8,7 @@ use lib.ListN.{length, length-append, length-take, length-drop}
 use Rattle.frame.specs.Build.{frame}
 use Rattle.printer.specs.Counter.{counter_of}
 use Rattle.printer.specs.Jet.{message, parameters, jet_size, jet_of}
-use Rattle.printer.proofs.Orders.{denied, granted, here, end, holds, untold, framed, told_frame}
+use Rattle.printer.proofs.Orders.{end, holds, framed, told_frame}
 use Rattle.printer.proofs.request.ask_message.Goals as goal
 
 parameters_long : (b : List ℕ) → length b ≡ jet_size → length (parameters (jet_of b)) ≡ 37
@@ -18,22 +18,14 @@ parameters_long b full = simp (length-append, length-take, length-drop) (omega a
 message_short : (b : List ℕ) → (jet_of b).length ≤ 512 → length (message (jet_of b)) ≤ 512
 message_short b h = simp length-take (omega arith)
 
-pub returns-then-not-has_message : goal.returns-then-not-has_message
-returns-then-not-has_message c = untold c.refused.ensures (here (rw (denied c.has_message.ensures c.if-not-has_message.true-raw)))
-
-pub returns-then-not-has_parameters : goal.returns-then-not-has_parameters
-returns-then-not-has_parameters c =
-    untold c.refused-then-not-has_parameters.ensures (here (rw (granted c.has_message.ensures c.if-not-has_message.false-raw) (denied c.has_parameters.ensures c.if-not-has_parameters.true-raw)))
-
 pub returns : goal.returns
 returns c =
     let q = c.parameters.ensures in
     let text = c.message-text.ensures in
-    let long = ap length q ∙ parameters_long _ c.requires.0 in
+    let long = ap length q ∙ parameters_long _ c.args.jet.sized in
     told_frame 0x43 (c.parameters.result.now ++ c.message-text.result.now)
-    (holds (rw (granted c.has_message.ensures c.if-not-has_message.false-raw) (granted c.has_parameters.ensures c.if-not-has_parameters.false-raw)) end)
+    (holds (rw (sym c.if-not-has_message.ensures) (sym c.if-not-has_parameters.ensures)) end)
     (ap₂ (λ (x y : List ℕ). frame 0x43 (x ++ y)) (sym q) (sym text))
-    (simp length-append (omega (arith, long)))
     (framed 0x43 40 c.parameters.result.now c.message-text.result.now c.args.out.now
-    (omega (arith, long)) (omega (arith, long, rw (← text) at (message_short _ c.requires.1))) c.requires.2
+    (omega (arith, long)) (omega (arith, long, rw (← text) at (message_short _ c.requires.0))) c.requires.1
     c.lay.ensures c.lay-2.ensures (omega (arith, long)) c.wrap.ensures)

@@ -1,10 +1,6 @@
 -- `serving::hold::serve` meets its contract: what is held goes on, or all is dropped.
-use Rattle.serving.proofs.Laws.{drops, holds_on}
+use Rattle.serving.proofs.Laws.{drops}
 use Rattle.serving.proofs.hold.serve.Goals as goal
-
-pub returns-in-Held : goal.returns-in-Held
-returns-in-Held c =
-    holds_on c.in-Held.is c.serve_held.ensures
 
 pub returns-in-Dropping : goal.returns-in-Dropping
 returns-in-Dropping c =
