@@ -98,6 +98,19 @@ most_digits zero n h = omega (arith, one_width n (omega arith))
 most_digits (suc k) n h =
     digit_case n (λ g. omega (arith, one_width n g)) (λ g. omega (arith, more_width n g, most_digits k (n / 10) (omega (arith, pow-suc 10 (suc k)))))
 
+one_power : (k : ℕ) → 1 ≤ 10 ^ k
+one_power zero = omega arith
+one_power (suc k) = omega (arith, pow-suc 10 k, one_power k)
+
+least_digits : (k n : ℕ) → 10 ^ k ≤ n → suc k ≤ length (decimal n)
+least_digits zero n h =
+    digit_case n (λ g. omega (arith, one_width n g)) (λ g. omega (arith, more_width n g))
+least_digits (suc k) n h =
+    digit_case n (λ g. absurd (omega (arith, pow-suc 10 k, one_power k))) (λ g. omega (arith, more_width n g, least_digits k (n / 10) (omega (arith, pow-suc 10 k))))
+
+pub digits_of_power : (k n : ℕ) → 10 ^ k ≤ n → n < 10 * 10 ^ k → length (decimal n) ≡ k + 1
+digits_of_power k n l m = omega (arith, least_digits k n l, most_digits k n (omega (arith, pow-suc 10 k)))
+
 pub byte_digits : (n : ℕ) → n < 256 → length (decimal n) ≤ 3
 byte_digits n h = most_digits 2 n (omega arith)
 

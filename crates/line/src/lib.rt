@@ -17,18 +17,15 @@ fn hex_digit(n: u8) -> u8
 }
 
 // How many digits a number has in decimal, 20 at most.
-#[tactic(auto, using(crate::proofs::Laws::one_width, crate::proofs::Laws::more_width, crate::proofs::Laws::usize_digits))]
+#[tactic(auto, using(crate::proofs::Laws::digits_of_power, crate::proofs::Laws::one_width, crate::proofs::Laws::usize_digits))]
 fn width(n: usize) -> usize
     ensures { (result ≡ length (decimal n)) × (result ≤ 20) }
 {
-    // A loop: the library has no method whose contract counts decimal digits.
-    let mut left = n;
-    let mut digits = 1;
-    while 10 <= left {
-        left /= 10;
-        digits += 1;
+    match n.checked_ilog10() {
+        // Below 20: a cast loses nothing.
+        Some(k) => k as usize + 1,
+        None => 1,
     }
-    digits
 }
 
 // Writes a number in decimal over the front of a buffer, from the last digit to the first, and hands back how many it has: the buffer is lent,
@@ -72,7 +69,7 @@ fn write_given(out: &mut [u8], given: Given) -> usize
     from + write_decimal(&mut out[from..], i)
 }
 
-// Writes bytes in capital hex over the front of a buffer, two digits a byte.
+// Writes bytes in capital hex over the front of a buffer, which is lent, two digits a byte.
 fn write_hex(out: &mut [u8], bytes: &[u8])
     requires { 2 * length bytes.now ≤ length out.old }
     ensures { out.new ≡ over (hex bytes.now) out.old }

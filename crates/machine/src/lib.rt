@@ -3,7 +3,7 @@
 
 use std::rt::Clock;
 
-// A moment of the machine's clock: seconds, and the nanoseconds behind them.
+// A moment of the machine's clock: seconds, and the nanoseconds behind them, as the public `instant_of` takes them.
 #[derive(Clone, Copy, Debug, PartialEq, Eq)]
 pub struct Timespec {
     pub tv_sec: i64,

@@ -125,7 +125,8 @@ fn head_place(k: u8) -> usize
     jet_place(head_jet(first_head(), k))
 }
 
-// A field update, over the jets of head 1: a character for each field position, jet 1's before jet 2's.
+// A field update, over the jets of head 1: a character for each field position, jet 1's before jet 2's. It asks for a valid state, as
+// `change_order` does.
 pub(crate) fn update_fields(state: &mut [u8], text: &[u8]) -> Result<(), Refusal>
     requires { valid_state state.old ≡ true }
     ensures { Obeys (update_fields (printer_of state.old) text.now) state.old (given_in result) state.new }

@@ -73,7 +73,8 @@ impl Settings {
         })
     }
 
-    // Whether a value lies from initial to final, and a batch below lot.
+    // Whether a value lies from initial to final, and a batch below lot: two numbers and no pair, as the rules `next_value` and `next_batch` have
+    // them.
     fn counts(self, value: u32, batch: u32) -> bool
         ensures { result ≡ both (within self.initial self.last value) (ltb batch self.lot) }
     {
@@ -99,6 +100,7 @@ impl Settings {
     }
 }
 
+// Settings come as a slice: with an array each caller would first make one of a part of its data.
 pub(crate) fn good_settings(q: &[u8]) -> bool
     requires { length q.now ≡ settings_size }
     ensures { result ≡ good_settings q.now }

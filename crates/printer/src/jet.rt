@@ -52,7 +52,8 @@ pub(crate) fn has_jet(model: u8, n: JetNumber) -> bool
     }
 }
 
-// The jet of a number, as a frame or a loop over the jets names it.
+// The jet of a number, as a frame or a loop over the jets names it. A function and no `From`: a byte turns into a jet's number here, and never
+// unseen.
 pub(crate) fn jet_number(b: u8) -> JetNumber
     ensures { result.0 ≡ b }
 {

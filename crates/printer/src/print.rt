@@ -31,6 +31,7 @@ fn print_jet(entries: [u8; 24], jet: JetBytes<'_>, out: &mut [u8]) -> usize
     requires { ((jet_of jet.bytes.now).length ≤ longest_message) × (3 * longest_message ≤ length out.old) }
     ensures { PrintsJet entries (jet_of jet.entry.bytes.now) out.old result out.new }
 {
+    // What is refused has no strip; there is room, so none is.
     put_strip(jet.message(), values(entries, jet), out).unwrap_or(0)
 }
 

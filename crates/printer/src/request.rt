@@ -1,4 +1,4 @@
-// What the frames 39h, 43h, 52h and D6h ask: each writes its frame where the answer's stands, behind the 06h.
+// What the frames 39h, 43h, 52h and D6h ask: each writes its frame where the answer's stands, behind the 06h, and so asks that slice for its room.
 ghost use Rattle.std.specs.Prelude.{◌-◌, ◌≤◌, length, true, [], ◌≡◌};
 ghost use Rattle.frame.specs.Build.{frame};
 ghost use Rattle.content.specs.Content.{longest_message};

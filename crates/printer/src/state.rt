@@ -14,7 +14,7 @@ pub(crate) const JETS: usize = 9;
 // How many bytes a state has, with its four jets.
 pub const STATE: usize = JETS + 4 * JET;
 
-// The part of a state that a jet is begins here.
+// The part of a state that a jet is begins here. It asks for 1 to 4, since a jet number holds any byte that a frame may name.
 pub(crate) fn jet_place(n: JetNumber) -> usize
     requires { (1 ≤ n.0) × (n.0 ≤ 4) }
     ensures { (result ≡ jet_place n.0) × (result + jet_size ≤ state_size) }

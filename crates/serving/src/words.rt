@@ -35,7 +35,7 @@ pub fn model_of(s: &[u8]) -> Option<u8>
     digit(s[0]).filter(|n| (1..=4).contains(n))
 }
 
-// The watchdog's seconds, "1" to "99", if a word is such.
+// The watchdog's seconds, "1" to "99", if a word is such: another rule than the type's, also in how many digits there are.
 #[tactic(auto, unfolding(crate::specs::Words::watchdog_of))]
 pub fn watchdog_of(s: &[u8]) -> Option<u8>
     ensures { result ≡ watchdog_of s.now }

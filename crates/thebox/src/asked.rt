@@ -25,7 +25,8 @@ const WATCHDOG: u8 = 3;
 // The longest word that is read, which is also the longest path.
 const WORD: usize = 4096;
 
-// Whether there is a word i; word 0 is the program's own name.
+// Whether there is a word i; word 0 is the program's own name. Asked before a word is read: one that is there and can't be read is a wrong word,
+// and none at all is not.
 fn has_word(rt: &impl Env, i: usize) -> bool {
     let mut word = [0; WORD];
     !matches!(rt.arg(i, &mut word), Err(FillError::NotPresent))
