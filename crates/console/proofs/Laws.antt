@@ -133,6 +133,13 @@ none_never {n} e = subst there e tt
     there None = Unit {0}
     there (Some i) = ⊥
 
+sized_long : (l : List ℕ) {n : ℕ} → sized l ≡ Some n → 1 ≤ n
+sized_long [] e = absurd (none_never e)
+sized_long (b ∷ l) {n} e =
+    let long : Some (length (b ∷ l)) ≡ Some n = e in
+    let same : length (b ∷ l) ≡ n = cc in
+    omega arith
+
 no_size : (l : List ℕ) → None ≡ sized l → length l ≡ 0
 no_size [] e = refl
 no_size (b ∷ l) e = absurd (none_never e)
@@ -202,13 +209,13 @@ module _ {s m store : List ℕ} {place : ℕ} (a : At s m store place) where
   next_there = rw (a.state, a.stores, a.here)
 
   module _ {text m' store' text' : List ℕ} {r : Turn} (t : Turns m store (drop place s) text r m' store' text') where
-    heard : {n : ℕ} → r.size ≡ Some n → (next s a.stand).number ≡ 3 → ⊥
+    heard : (r.size ≡ None → ⊥) → (next s a.stand).number ≡ 3 → ⊥
     heard z e =
         let o : Outcome = outcome m (full store (drop place s)) in
         let three : o.number ≡ 3 = ap (λ (x : Outcome). x.number) next_there ∙ e in
-        none_never (sym (t.size ∙ ap sized (no_line o three)) ∙ z)
+        z (t.size ∙ ap sized (no_line o three))
 
-    pub goes : {n : ℕ} → place < length s → r.size ≡ Some n → At s m' store' (place + r.consumed)
+    pub goes : place < length s → (r.size ≡ None → ⊥) → At s m' store' (place + r.consumed)
     goes h z =
         let w : Stand = a.stand in
         let call : Call = hand_in (left s w) in
@@ -233,8 +240,12 @@ module _ {s m store : List ℕ} {place : ℕ} (a : At s m store place) where
           ended = λ _. inr (sym (ap (λ (x : Outcome). x.number) next_there) ∙ three);
         }
 
+    -- No line is empty.
+    pub has_bytes : (n : ℕ) → r.size ≡ Some n → 1 ≤ n
+    has_bytes n z = sized_long (line_of (outcome m (full store (drop place s)))) (sym t.size ∙ z)
+
     -- A call that has a line consumes something.
-    pub moves : {n : ℕ} → place < length s → r.size ≡ Some n → 1 ≤ r.consumed
+    pub moves : place < length s → (r.size ≡ None → ⊥) → 1 ≤ r.consumed
     moves h z =
         subst (λ (n : ℕ). 1 ≤ n) (sym (t.consumed ∙ ap (λ (x : Outcome). x.consumed) next_there))
         (next_takes s a.stand a.walked (subst (λ (n : ℕ). n < length s) a.here h) (heard z))

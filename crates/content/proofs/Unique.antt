@@ -1,5 +1,6 @@
 -- Every contract has one outcome: the answer is the rule's, and the bytes after go by the answer.
-use Rattle.content.specs.Unique.{ReadsUnique, TestsUnique, WithinUnique, CharactersInFrontUnique, IsContentUnique, FieldPositionsUnique, EditsUnique, LayTextUnique, UpdatesUnique, StripsUnique, PutsUnique}
+use Rattle.frame.proofs.Unique.{numbered_unique, outcome_unique}
+use Rattle.content.specs.Unique.{ReadsUnique, TestsUnique, WithinUnique, CharactersInFrontUnique, IsContentUnique, FieldPositionsUnique, EditsUnique, LayTextUnique, UpdatesUnique, StripsUnique, PutsUnique, TestAnswerUnique, EditAnswerUnique, UpdateAnswerUnique, StripAnswerUnique, PutAnswerUnique}
 
 pub reads_unique : ReadsUnique
 reads_unique s r r' p q = cc
@@ -33,3 +34,19 @@ strips_unique v s before r r' after after' p q = ((cc), (cc))
 
 pub puts_unique : PutsUnique
 puts_unique v s before r r' after after' p q = ((cc), (cc))
+
+-- ---- Of the answers that the calls hand back.
+pub test_answer_unique : TestAnswerUnique
+test_answer_unique s r r' p q = outcome_unique _ r r' p.answer q.answer
+
+pub edit_answer_unique : EditAnswerUnique
+edit_answer_unique before address symbols r r' after after' p q = (numbered_unique _ _ r r' p.answer q.answer, (cc))
+
+pub update_answer_unique : UpdateAnswerUnique
+update_answer_unique before text r r' after after' p q = (numbered_unique _ _ r r' p.answer q.answer, (cc))
+
+pub strip_answer_unique : StripAnswerUnique
+strip_answer_unique v s before r r' after after' p q = (numbered_unique _ _ r r' p.answer q.answer, (cc))
+
+pub put_answer_unique : PutAnswerUnique
+put_answer_unique v s before r r' after after' p q = (numbered_unique _ _ r r' p.answer q.answer, (cc))

@@ -1,6 +1,8 @@
 -- Every contract has one outcome: two that meet it for the same inputs have the same answer and the same bytes after.
-use Rattle.std.specs.Prelude.{ℕ, Bool, List, ◌≡◌}
+use Rattle.std.specs.Prelude.{ℕ, Bool, Result, List, ◌≡◌}
 use Rattle.frame.specs.Ground.{OneAnswer, OneOutcome, within}
+use Rattle.frame.specs.Given.{given_in, numbered}
+use Rattle.frame.specs.declared.given.Refusal.{Refusal}
 use Rattle.content.specs.Byte.{characters_in_front}
 use Rattle.content.specs.Content.{Reads, Tests, is_content}
 use Rattle.content.specs.Edit.{Edits}
@@ -43,3 +45,22 @@ StripsUnique = (v : Values) (s before : List ℕ) → OneOutcome (Strips v s bef
 
 abbrev pub PutsUnique : Type 0
 PutsUnique = (v : Values) (s before : List ℕ) → OneOutcome (Puts v s before)
+
+-- The calls hand back refusals by name, and their contracts speak of what is given of those. What is given tells the refusal, so a call
+-- has no second answer either, and no second bytes.
+abbrev pub TestAnswerUnique : Type 0
+TestAnswerUnique = (s : List ℕ) → OneAnswer (λ (r : Result Unit Refusal). Tests s (given_in r))
+
+abbrev pub EditAnswerUnique : Type 0
+EditAnswerUnique =
+    (before : List ℕ) (address : ℕ) (symbols : List ℕ) →
+    OneOutcome (λ (r : Result Unit Refusal). Edits before address symbols (numbered r))
+
+abbrev pub UpdateAnswerUnique : Type 0
+UpdateAnswerUnique = (before text : List ℕ) → OneOutcome (λ (r : Result Unit Refusal). Updates before text (numbered r))
+
+abbrev pub StripAnswerUnique : Type 0
+StripAnswerUnique = (v : Values) (s before : List ℕ) → OneOutcome (λ (r : Result ℕ Refusal). Strips v s before (numbered r))
+
+abbrev pub PutAnswerUnique : Type 0
+PutAnswerUnique = (v : Values) (s before : List ℕ) → OneOutcome (λ (r : Result ℕ Refusal). Puts v s before (numbered r))

@@ -144,10 +144,11 @@ pub(crate) fn passed(item: Item, seen: Seen) -> Seen
 }
 
 // How many characters stand in front: the index of the first byte that is none, or the count where all are.
+#[tactic(auto, unfolding(crate::specs::Item::characters_end))]
 pub fn characters_in_front(s: &[u8]) -> usize
     ensures { result ≡ characters_in_front s.now }
 {
-    s.iter().take_while(|&&b| is_character(b)).count()
+    characters_end(s, 0)
 }
 
 // The place behind the characters that stand in a row from a place on. Tried: a part from the place on and `take_while`, 5 instructions

@@ -103,11 +103,14 @@ fn write(s: &[u8], values: Values, out: &mut [u8]) -> usize
     }
 }
 
-// Whether there is room for three times as many bytes, without dividing: the small board has no divide unit.
+// Whether there is room for three times as many bytes, by subtracting: the small board has no divide unit, and a product that is tested for
+// overflow can take a call there as well.
 fn room_for_three(n: usize, room: usize) -> bool
     ensures { result ≡ leb (3 * n) room }
 {
-    n.checked_mul(3).is_some_and(|three| three <= room)
+    room.checked_sub(n)
+        .and_then(|rest| rest.checked_sub(n))
+        .is_some_and(|rest| n <= rest)
 }
 
 // Writes the strip of any bytes over the front of a buffer of three times their length, which is room enough for every strip.

@@ -4,11 +4,12 @@ use mathlib.Core.Path.{◌≡◌, refl, sym, ◌∙◌, ap}
 use lib.Dec.{eqb}
 use Rattle.std.proofs.Common.{ℕ, Option, None, Some, Result, Ok, Err}
 use Rattle.frame.specs.Ground.{pick}
+use Rattle.frame.specs.Build.{Wraps, Answers, Builds}
 use Rattle.frame.specs.Given.{given_in, given_of, numbered}
 use Rattle.frame.specs.declared.given.Given.{Given}
 use Rattle.frame.specs.declared.given.Refusal.{Refusal}
 use Rattle.frame.specs.declared.given.Refusal.TheVariants.{BadState, ShortBuffer, NotWhole, TooLong, WrongCheck, UnknownIdentifier, WrongLength, NoSuchJet, NoSuchMessage, BadParameters, NoContent, NoRoom, Missing, WrongCount, NoPosition, NoCharacter, NoSuchType, NoSuchMoment}
-use Rattle.frame.specs.Unique.{PlainUnique, PlacedUnique, RefusalUnique, OutcomeUnique, NumberedUnique, WordsUnique, ReceivesUnique, LaysUnique, WrapsUnique, AnswersUnique, BuildsUnique, IsHoldingUnique, SilenceUnique}
+use Rattle.frame.specs.Unique.{PlainUnique, PlacedUnique, RefusalUnique, OutcomeUnique, NumberedUnique, NumberedOutcomeUnique, GivenOutcomeUnique, GivenAnswerUnique, WordsUnique, ReceivesUnique, LaysUnique, WrapsUnique, AnswersUnique, BuildsUnique, WrapUnique, AnswerUnique, BuildUnique, IsHoldingUnique, SilenceUnique}
 
 pub plain_unique : PlainUnique
 plain_unique number r r' p q = cc
@@ -110,6 +111,19 @@ outcome_unique g r r' p q = sym (outcome_back r) ∙ ap outcome_of (p ∙ sym q)
 pub numbered_unique : NumberedUnique
 numbered_unique A b r r' p q = sym (numbered_back r) ∙ ap unnumbered (p ∙ sym q) ∙ numbered_back r'
 
+pub numbered_outcome_unique : NumberedOutcomeUnique
+numbered_outcome_unique A C one r r' after after' p q =
+    let same = one (numbered r) (numbered r') after after' p q in
+    (numbered_unique A (numbered r') r r' same.0 refl, same.1)
+
+pub given_outcome_unique : GivenOutcomeUnique
+given_outcome_unique C one r r' after after' p q =
+    let same = one (given_in r) (given_in r') after after' p q in
+    (outcome_unique (given_in r') r r' same.0 refl, same.1)
+
+pub given_answer_unique : GivenAnswerUnique
+given_answer_unique C one r r' p q = outcome_unique (given_in r') r r' (one (given_in r) (given_in r') p q) refl
+
 -- ---- Of the other contracts.
 pub words_unique : WordsUnique
 words_unique high low r r' p q = cc
@@ -128,6 +142,15 @@ answers_unique before identifier d r r' after after' p q = ((cc), (cc))
 
 pub builds_unique : BuildsUnique
 builds_unique before identifier d r r' after after' p q = ((cc), (cc))
+
+pub wrap_unique : WrapUnique
+wrap_unique before identifier n = numbered_outcome_unique ℕ (Wraps before identifier n) (wraps_unique before identifier n)
+
+pub answer_unique : AnswerUnique
+answer_unique before identifier d = numbered_outcome_unique ℕ (Answers before identifier d) (answers_unique before identifier d)
+
+pub build_unique : BuildUnique
+build_unique before identifier d = numbered_outcome_unique ℕ (Builds before identifier d) (builds_unique before identifier d)
 
 pub is_holding_unique : IsHoldingUnique
 is_holding_unique h buffer r r' p q = cc

@@ -27,6 +27,17 @@ OutcomeUnique = (g : Given) → OneAnswer (λ (r : Result Unit Refusal). given_i
 abbrev pub NumberedUnique : Type 1
 NumberedUnique = (A : Type 0) (b : Result A Given) → OneAnswer (λ (r : Result A Refusal). numbered r ≡ b)
 
+-- So a contract over what is given that has one outcome has one in the code's answer too, whichever it is.
+abbrev pub NumberedOutcomeUnique : Type 1
+NumberedOutcomeUnique =
+    (A : Type 0) (C : Result A Given → List ℕ → Type 0) → OneOutcome C → OneOutcome (λ (r : Result A Refusal) after. C (numbered r) after)
+
+abbrev pub GivenOutcomeUnique : Type 1
+GivenOutcomeUnique = (C : Given → List ℕ → Type 0) → OneOutcome C → OneOutcome (λ (r : Result Unit Refusal) after. C (given_in r) after)
+
+abbrev pub GivenAnswerUnique : Type 1
+GivenAnswerUnique = (C : Given → Type 0) → OneAnswer C → OneAnswer (λ (r : Result Unit Refusal). C (given_in r))
+
 abbrev pub WordsUnique : Type 0
 WordsUnique = (high low : ℕ) → OneAnswer (Words high low)
 
@@ -44,6 +55,16 @@ AnswersUnique = (before : List ℕ) (identifier : ℕ) (d : List ℕ) → OneOut
 
 abbrev pub BuildsUnique : Type 0
 BuildsUnique = (before : List ℕ) (identifier : ℕ) (d : List ℕ) → OneOutcome (Builds before identifier d)
+
+-- The same of what the code hands back, which has a refusal in the place of what is given.
+abbrev pub WrapUnique : Type 0
+WrapUnique = (before : List ℕ) (identifier n : ℕ) → OneOutcome (λ (r : Result ℕ Refusal) after. Wraps before identifier n (numbered r) after)
+
+abbrev pub AnswerUnique : Type 0
+AnswerUnique = (before : List ℕ) (identifier : ℕ) (d : List ℕ) → OneOutcome (λ (r : Result ℕ Refusal) after. Answers before identifier d (numbered r) after)
+
+abbrev pub BuildUnique : Type 0
+BuildUnique = (before : List ℕ) (identifier : ℕ) (d : List ℕ) → OneOutcome (λ (r : Result ℕ Refusal) after. Builds before identifier d (numbered r) after)
 
 -- `is_holding` and `silence`.
 abbrev pub IsHoldingUnique : Type 0

@@ -32,7 +32,7 @@ pub fn word(high: u8, low: u8) -> usize
 }
 
 // The exclusive OR of all bytes.
-#[tactic(auto, using(crate::proofs::Folds::check_folds))]
+#[tactic(auto, using(crate::proofs::Folds::check_folds, crate::proofs::Folds::one_apart))]
 pub(crate) fn check(s: &[u8]) -> u8
     ensures { result ≡ check s.now }
 {

@@ -1,16 +1,18 @@
 -- The laws of rows of records, in whatever store: when the numbers fit, what taking one out and putting it last leaves, and zeros behind.
-use Prim.Native.Nat.{ℕ, zero, suc, ◌+◌, ◌<◌}
-use mathlib.Core.Bool.{Bool, true, false, not, ◌||◌}
+use Prim.Native.Nat.{ℕ, zero, suc, ◌+◌, ◌*◌, ◌<◌}
+use mathlib.Core.Bool.{Bool, true, false, not, ◌&&◌, ◌||◌}
 use mathlib.Core.List.{List, [], ◌∷◌, ◌++◌, append_assoc, append-nil}
 use mathlib.Core.Path.{◌≡◌, refl, sym, ◌∙◌, ap, ap₂}
 use native.Mathlib.Nat.{not-suc-le-zero, le_of_suc-le-suc}
 use native.Mathlib.Omega.{arith}
 use Rattle.std.specs.Int.Bits.{bit_or, or_zero_l}
-use Rattle.std.specs.List.{fold}
+use Rattle.std.specs.List.{fold, list_all}
+use Rattle.std.specs.Simd.{first_chunks}
 use Rattle.std.proofs.lemmas.Nat.{le_or_l}
 use borrow.Author.Tests.{eq-eqb, ne_eqb, eqb-true, eqb-false, not-true}
 use lib.Dec.{eqb}
-use lib.ListN.{length, replicate, length-append}
+use lib.ListN.{length, take, drop, replicate, length-append}
+use lib.Seq.{drop-drop}
 use Rattle.frame.specs.Ground.{both, has, pick}
 use Rattle.frame.proofs.Ground.{both_true, never}
 use Rattle.library.specs.Record.{Record, head_size, record_bytes, written}
@@ -63,6 +65,34 @@ any_from a (b ∷ s) = any_from (bit_or a b) s ∙ rw (or_none a b) (sym (both_a
 
 pub any_blank : (s : List ℕ) → eqb (fold bit_or 0 s) 0 ≡ blank s
 any_blank s = any_from 0 s
+
+-- Bytes are 00h where each part is, and what stands behind the last.
+blank_split : (n : ℕ) (s : List ℕ) → blank s ≡ both (blank (take n s)) (blank (drop n s))
+blank_split zero s = refl
+blank_split (suc n) [] = refl
+blank_split (suc n) (b ∷ s) = rw (blank_split n s) (both_assoc (eqb b 0) (blank (take n s)) (blank (drop n s)))
+
+both_and : (x y z : Bool) → both x (y && z) ≡ ((x && y) && z)
+both_and true y z = refl
+both_and false y z = refl
+
+parts_of : (n k : ℕ) (s : List ℕ) → blank s ≡ (list_all blank (first_chunks n k s) && blank (drop (k * n) s))
+parts_of n zero s =
+    let none : 0 ≡ 0 * n = omega arith in
+    ap (λ (i : ℕ). blank (drop i s)) none
+parts_of n (suc k) s =
+    let count : n + k * n ≡ suc k * n = omega arith in
+    let behind : drop (k * n) (drop n s) ≡ drop (suc k * n) s = drop-drop (k * n) n s ∙ ap (λ (i : ℕ). drop i s) count in
+    blank_split n s
+    ∙ ap (both (blank (take n s))) (parts_of n k (drop n s))
+    ∙ ap (λ (l : List ℕ). both (blank (take n s)) (list_all blank (first_chunks n k (drop n s)) && blank l)) behind
+    ∙ both_and (blank (take n s)) (list_all blank (first_chunks n k (drop n s))) (blank (drop (suc k * n) s))
+
+pub parts_blank : (n k : ℕ) (s : List ℕ) → list_all blank (first_chunks n k s) ≡ true → blank (drop (k * n) s) ≡ blank s
+parts_blank n k s e = sym (parts_of n k s ∙ rw e)
+
+pub parts_not : (n k : ℕ) (s : List ℕ) → list_all blank (first_chunks n k s) ≡ false → false ≡ blank s
+parts_not n k s e = sym (parts_of n k s ∙ rw e)
 
 -- ---- A number that is among some, or not.
 pub has_split : (n x : ℕ) (xs : List ℕ) → has n (x ∷ xs) ≡ false → (eqb x n ≡ false) × (has n xs ≡ false)

@@ -1,6 +1,7 @@
 -- No second outcome meets a contract of `library`: the answer is the rule's, and so are the bytes after it.
 use mathlib.Core.Path.{sym, ◌∙◌}
-use Rattle.library.specs.Unique.{RecordAtUnique, IsNumberUnique, IsStoreUnique, BodyUnique, KeepUnique}
+use Rattle.frame.proofs.Unique.{outcome_unique}
+use Rattle.library.specs.Unique.{RecordAtUnique, IsNumberUnique, IsStoreUnique, BodyUnique, KeepUnique, KeepAnswerUnique}
 
 pub record_at_unique : RecordAtUnique
 record_at_unique s at r r' p q = p ∙ sym q
@@ -16,3 +17,6 @@ body_unique s n r r' p q = p ∙ sym q
 
 pub keep_unique : KeepUnique
 keep_unique s n body r r' after after' p q = (p.gives ∙ sym q.gives, p.store ∙ sym q.store)
+
+pub keep_answer_unique : KeepAnswerUnique
+keep_answer_unique s n body r r' after after' p q = (outcome_unique _ r r' p.gives q.gives, p.store ∙ sym q.store)

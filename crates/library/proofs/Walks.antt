@@ -9,7 +9,7 @@ use mathlib.Core.Path.{◌≡◌, sym, ◌∙◌, ap, ap₂}
 use native.Mathlib.Omega.{arith}
 use borrow.Author.Tests.{eq-eqb, ne_eqb}
 use lib.ListN.{length, get_or, take, drop, length-append, length-drop}
-use lib.Seq.{drop-drop, length-take-le}
+use lib.Seq.{drop-drop, length-take-le, take_all}
 use Rattle.frame.specs.Ground.{pick}
 use Rattle.frame.specs.Wire.{word}
 use Rattle.library.specs.Record.{Record, begins, body_size, head_size, record_bytes, record_size, records, rest, step_at, written}
@@ -145,8 +145,11 @@ module _ (s : List ℕ) (at : ℕ) where
   pub ends_mark : (get_or (drop at s) 0 0 ≡ 0x4C → ⊥) → None ≡ step_at s at
   ends_mark n = ends (λ b. n b.mark)
 
-  pub ends_second : (get_or (drop at s) 1 0 ≡ 0x52 → ⊥) → None ≡ step_at s at
-  ends_second n = ends (λ b. n b.second)
+  -- Of the bytes as `get` hands them out.
+  pub ends_second : (t : List ℕ) → t ≡ take (length s - at) (drop at s) → (get_or t 1 0 ≡ 0x52 → ⊥) → None ≡ step_at s at
+  ends_second t from n =
+      let rest : t ≡ drop at s = from ∙ take_all (length s - at) (drop at s) (simp length-drop (omega arith)) in
+      ends (λ b. n (ap (λ (l : List ℕ). get_or l 1 0) rest ∙ b.second))
 
   pub ends_long : length s < at + (head_size + word (get_or (drop at s) 3 0) (get_or (drop at s) 4 0)) → None ≡ step_at s at
   ends_long h = ends (λ b. omega (arith, b.inside, length-drop at s))

@@ -1,6 +1,8 @@
 -- Every contract has one outcome: two that meet it for the same inputs have the same answer and the same bytes after.
-use Rattle.std.specs.Prelude.{ℕ, Bool, Option, List, ◌≡◌}
+use Rattle.std.specs.Prelude.{ℕ, Bool, Option, Result, List, ◌≡◌}
 use Rattle.frame.specs.Ground.{OneAnswer, OneOutcome}
+use Rattle.frame.specs.Given.{given_in}
+use Rattle.frame.specs.declared.given.Refusal.{Refusal}
 use Rattle.library.specs.Record.{records, step_at}
 use Rattle.library.specs.Store.{Keeps, body_of, is_number, is_store}
 use Rattle.library.specs.declared.record.Found.{Found}
@@ -19,3 +21,7 @@ BodyUnique = (s : List ℕ) (n : ℕ) → OneAnswer (λ (r : List ℕ). r ≡ bo
 
 abbrev pub KeepUnique : Type 0
 KeepUnique = (s : List ℕ) (n : ℕ) (body : List ℕ) → OneOutcome (Keeps s n body)
+
+-- The same of the answer that the code hands back.
+abbrev pub KeepAnswerUnique : Type 0
+KeepAnswerUnique = (s : List ℕ) (n : ℕ) (body : List ℕ) → OneOutcome (λ (r : Result Unit Refusal). Keeps s n body (given_in r))

@@ -1,11 +1,11 @@
 -- Every contract has one outcome: each field of the answer is the rule's, and so are the bytes.
 use Prim.Native.Nat.{ℕ}
 use mathlib.Core.List.{List}
-use mathlib.Core.Path.{◌≡◌, sym, ◌∙◌}
-use Rattle.std.proofs.Common.{Result}
+use mathlib.Core.Path.{◌≡◌, sym, ◌∙◌, ap}
+use Rattle.std.proofs.Common.{Result, Ok, Err}
 use Rattle.frame.specs.declared.given.Refusal.{Refusal}
-use Rattle.frame.proofs.Unique.{outcome_unique}
-use Rattle.printer.specs.Unique.{FreshensUnique, ObeysUnique, SetClockUnique, SetDateChangeUnique, TickUnique, ReceivesUnique, TakesByteUnique, ShowsUnique}
+use Rattle.frame.proofs.Unique.{outcome_unique, refusal_unique}
+use Rattle.printer.specs.Unique.{FreshensUnique, ObeysUnique, SetClockUnique, SetDateChangeUnique, TickUnique, ReceivesUnique, TakesByteUnique, ShowsUnique, ShownUnique}
 use Rattle.frame.specs.declared.holding.Holding.{Holding}
 use Rattle.printer.specs.Receive.{Fulfils, Outcome}
 use Rattle.printer.specs.declared.answer.Answered.{Answered}
@@ -59,3 +59,11 @@ takes_byte_unique m store holding buffer byte answer strips r r' m' m'' store' s
 
 pub shows_unique : ShowsUnique
 shows_unique store current n refused refused' r r' p q = (p.gives ∙ sym q.gives, p.bytes ∙ sym q.bytes)
+
+pub shown_unique : ShownUnique
+shown_unique store current n (Ok part) (Ok part') p q = ap Ok (p.bytes ∙ sym q.bytes)
+shown_unique store current n (Err why) (Err why') p q = ap Err (refusal_unique _ why why' p.gives q.gives)
+shown_unique store current n (Ok part) (Err why) p q =
+    let same : ◌≡◌ {A = Result Unit Refusal} (Ok tt) (Err why) = outcome_unique _ (Ok tt) (Err why) p.gives q.gives in (cc)
+shown_unique store current n (Err why) (Ok part) p q =
+    let same : ◌≡◌ {A = Result Unit Refusal} (Err why) (Ok tt) = outcome_unique _ (Err why) (Ok tt) p.gives q.gives in (cc)

@@ -1,10 +1,11 @@
 -- Every contract has one outcome: two that meet it for the same inputs have the same answer and the same bytes after.
-use Rattle.std.specs.Prelude.{ℕ, Result, List, ◌≡◌}
+use denote.Ref.{Bor}
+use Rattle.std.specs.Prelude.{ℕ, Result, Ok, Err, List, ◌≡◌}
 use Rattle.frame.specs.Ground.{OneOutcome}
 use Rattle.frame.specs.Given.{given_in}
 use Rattle.frame.specs.declared.given.Refusal.{Refusal}
 use Rattle.printer.specs.Order.{Order, Obeys}
-use Rattle.printer.specs.Messages.{Shows}
+use Rattle.printer.specs.Messages.{Shows, bytes_shown}
 use Rattle.printer.specs.Receive.{Receives}
 use Rattle.printer.specs.Call.{Freshens, set_clock, set_date_change, tick_clock}
 use Rattle.calendar.specs.declared.clock.Clock.{Clock}
@@ -53,3 +54,15 @@ TakesByteUnique =
 -- `shown`: the number, and the bytes handed back.
 abbrev pub ShowsUnique : Type 0
 ShowsUnique = (store current : List ℕ) (n : ℕ) → OneOutcome (Shows store current n)
+
+-- The same of the answer that the code hands back: two are both done, with the same bytes, or both refused, with the same refusal.
+abbrev pub handed_back : Result (Bor (List ℕ)) Refusal → Result (List ℕ) Refusal
+handed_back (Ok part) = Ok part.now
+handed_back (Err why) = Err why
+
+abbrev pub ShownUnique : Type 0
+ShownUnique =
+    (store current : List ℕ) (n : ℕ) (r r' : Result (Bor (List ℕ)) Refusal) →
+    Shows store current n (given_in r) (bytes_shown r) →
+    Shows store current n (given_in r') (bytes_shown r') →
+    handed_back r ≡ handed_back r'

@@ -1,5 +1,5 @@
 // Reading the table: its words, decimal numbers, and bytes as the documents write them.
-ghost use Rattle.std.specs.Prelude.{◌≤◌};
+ghost use Rattle.std.specs.Prelude.{◌<◌, ◌≤◌, IfSome};
 
 use crate::show::front;
 use calendar::clock::{Clock, Date};
@@ -116,7 +116,9 @@ struct Reading<'a> {
 }
 
 // What a capital hex digit comes to.
-fn hex_digit(b: u8) -> Option<u8> {
+fn hex_digit(b: u8) -> Option<u8>
+    ensures { IfSome result (λ digit. digit < 16) }
+{
     match b {
         b'0'..=b'9' => Some(b - b'0'),
         b'A'..=b'F' => Some(b - b'A' + 10),

@@ -4,7 +4,7 @@ ghost use Rattle.std.specs.Io.{ReadsAtMost};
 ghost use Rattle.thebox.specs.Line.{Feeds, Passes, Steps, Takes};
 
 use crate::asked::Asked;
-use crate::say::Failure;
+use crate::say::{Failure, failed};
 use frame::holding::{HOLDING, Holding};
 use library::store::STORE;
 use machine::machine_time;
@@ -16,6 +16,7 @@ use serving::pace::{due, instant_of, is_silence, since, tick_all};
 use std::fs::File;
 use std::io;
 use std::io::{IsTerminal, Print, Read, Write};
+use std::process::ExitCode;
 
 // How many bytes are read at a time.
 const READ: usize = 256;
@@ -158,13 +159,27 @@ impl Line {
         let at = now(outside.rt)?;
         self.take(&bytes[..n], at, outside)
     }
+
+    // Turn by turn, until the end of a pipe or a failure. A proved loop has to end, and nothing says that a line does: so turns are counted, up
+    // to a number that no run comes to.
+    fn serve(&mut self, outside: &mut Outside) -> Result<(), Failure> {
+        for _ in 0..u64::MAX {
+            if !self.turn(outside)? {
+                break;
+            }
+        }
+        Ok(())
+    }
 }
 
-// A fresh printer of the type at the moment, with an empty store, on standard input and output, until the end of a pipe or a failure. Not inlined, so that it is not on the stack while the words are read.
+// A fresh printer of the type at the moment, with an empty store, on standard input and output, and the status that the program then ends with. What fails is said before the file for the strips is closed, as `outside` goes. Not inlined, so that it is not on the stack while the words are read.
 #[inline(never)]
-pub(crate) fn run(rt: &HostRuntime, asked: Asked) -> Result<(), Failure> {
+pub(crate) fn run(rt: &HostRuntime, asked: Asked) -> ExitCode {
     let tty = rt.stdin().is_terminal();
-    let began = now(rt)?;
+    let began = match now(rt) {
+        Ok(at) => at,
+        Err(why) => return failed(rt, &why),
+    };
     let mut outside = Outside {
         rt,
         file: asked.strips,
@@ -185,11 +200,8 @@ pub(crate) fn run(rt: &HostRuntime, asked: Asked) -> Result<(), Failure> {
         ticked: 0,
     };
     let _ = fresh(&mut line.state, asked.model, asked.clock);
-    // A proved loop has to end, and nothing says that a line does: so turns are counted, up to a number that no run comes to.
-    for _ in 0..u64::MAX {
-        if !line.turn(&mut outside)? {
-            break;
-        }
+    match line.serve(&mut outside) {
+        Ok(()) => ExitCode::SUCCESS,
+        Err(why) => failed(rt, &why),
     }
-    Ok(())
 }

@@ -7,16 +7,12 @@ mod say;
 
 use asked::read_words;
 use line::run;
-use say::{Failure, failed};
+use say::failed;
 use std::process::ExitCode;
 
-fn serve(rt: &HostRuntime) -> Result<(), Failure> {
-    run(rt, read_words(rt)?)
-}
-
 fn main(rt: HostRuntime) -> ExitCode {
-    match serve(&rt) {
-        Ok(()) => ExitCode::SUCCESS,
+    match read_words(&rt) {
+        Ok(asked) => run(&rt, asked),
         Err(why) => failed(&rt, &why),
     }
 }

@@ -2,7 +2,7 @@
 use mathlib.Core.Path.{sym}
 use borrow.Author.Rules.{rules}
 use lib.Seq.{length-take-le}
-use Rattle.console.proofs.Laws.{met, answer_inside, waits, turns}
+use Rattle.console.proofs.Laws.{met, answer_inside, turns}
 use Rattle.console.proofs.call.Goals as goal
 
 pub slice_bounds-write_line-end : goal.slice_bounds-write_line-end
