@@ -58,8 +58,8 @@ pub(crate) fn is_count(b: u8) -> bool
     within(1, 255, b)
 }
 
-// The ranges are tests behind the single bytes: written as patterns they make the table of the match longer, and each block took a second
-// jump by a table.
+// The ranges are tests behind the single bytes: tried as patterns, they make the table of the match longer, and each block takes one jump by a
+// table more.
 #[tactic(auto, unfolding(crate::specs::Byte::kind_of))]
 pub(crate) fn kind_of(b: u8) -> Kind
     ensures { result ≡ kind_of b }

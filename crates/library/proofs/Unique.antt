@@ -1,6 +1,7 @@
 -- No second outcome meets a contract of `library`: the answer is the rule's, and so are the bytes after it.
 use mathlib.Core.Path.{sym, ◌∙◌}
-use Rattle.frame.proofs.Unique.{outcome_unique}
+use Rattle.frame.proofs.Unique.{given_outcome_unique}
+use Rattle.library.specs.Store.{Keeps}
 use Rattle.library.specs.Unique.{RecordAtUnique, IsNumberUnique, IsStoreUnique, BodyUnique, KeepUnique, KeepAnswerUnique}
 
 pub record_at_unique : RecordAtUnique
@@ -19,4 +20,4 @@ pub keep_unique : KeepUnique
 keep_unique s n body r r' after after' p q = (p.gives ∙ sym q.gives, p.store ∙ sym q.store)
 
 pub keep_answer_unique : KeepAnswerUnique
-keep_answer_unique s n body r r' after after' p q = (outcome_unique _ r r' p.gives q.gives, p.store ∙ sym q.store)
+keep_answer_unique s n body = given_outcome_unique (Keeps s n body) (keep_unique s n body)

@@ -21,7 +21,8 @@ pub fn is_number(n: u8) -> bool
     (1..=LAST).contains(&n)
 }
 
-// How many bytes are tested at once: a count that the compiler knows, and few, so that a store with others is refused early.
+// How many bytes are tested at once: a count that the compiler knows, and few, so that a store with another byte near the front of its rest
+// is refused early.
 const STRETCH: usize = 256;
 
 // Whether every byte is 00h, by one OR over all, which the compiler makes wide words of.

@@ -172,7 +172,7 @@ impl Line {
     }
 }
 
-// A fresh printer of the type at the moment, with an empty store, on standard input and output, and the status that the program then ends with. What fails is said before the file for the strips is closed, as `outside` goes. Not inlined, so that it is not on the stack while the words are read.
+// A fresh printer of the type at the moment, with an empty store, on standard input and output, and the status that the program then ends with. What fails is said while the file for the strips is still open; it is closed as `outside` goes. Not inlined, so that it is not on the stack while the words are read.
 #[inline(never)]
 pub(crate) fn run(rt: &HostRuntime, asked: Asked) -> ExitCode {
     let tty = rt.stdin().is_terminal();
